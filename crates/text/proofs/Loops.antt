@@ -1,0 +1,62 @@
+-- Each turn of the loops, and each way out of them, from the facts that are known there.
+-- Assumes nothing.
+use Prim.Native.Nat.{ℕ, zero, suc, _+_, _-_, _*_, _/_, _%_, _≤_, _<_}
+use mathlib.Core.Path.{_≡_, refl, sym, ap, _∙_}
+use mathlib.Core.Bool.{Bool, true, false, _&&_, not}
+use mathlib.Core.List.{List, [], _∷_, _++_, append-assoc, append-nil}
+use native.Mathlib.Nat.{add-comm}
+use native.Mathlib.Numerals.{add-one}
+use native.Mathlib.Omega.{arith}
+use borrow.Author.Tests.{not-true, not-false}
+use lib.ListN.{length, getD, take, drop, set, length-take, length-set}
+use lib.Seq.{getD-take, drop-set-lt, getD-set-same, drop-length}
+use Rattle.text.specs.Bytes.{every}
+use Rattle.text.specs.Numbers.{numberAfter, digits}
+use Rattle.text.proofs.Lists.{step, ended}
+
+-- ---- a test at each byte
+module _ (test : ℕ → Bool) (s : List ℕ) (i : ℕ) (r : Bool) (known : every test (drop i s) ≡ r) where
+  pub every-fails : (b : Bool) → i < length s → b ≡ test (getD s i 0) → not b ≡ true → false ≡ r
+  unfolding every
+  every-fails b h e n = rw (step s i h, ← e, not-true b n) at known
+
+  pub every-on : (b : Bool) → i < length s → b ≡ test (getD s i 0) → not b ≡ false → every test (drop (i + 1) s) ≡ r
+  unfolding every
+  every-on b h e n = rw (step s i h, ← e, not-false b n) at known
+
+  pub every-ends : length s ≤ i → true ≡ r
+  unfolding every
+  every-ends h = rw (ended s i h) at known
+
+-- ---- the number that the first k digits write
+module _ (k : ℕ) (s : List ℕ) (i n r : ℕ) (known : numberAfter n (drop i (take k s)) ≡ r) where
+  pub number-on : (v : ℕ) → i < length s → i ≤ k → (i ≡ k → ⊥) → v ≡ getD s i 0 - 48 → numberAfter (n * 10 + v) (drop (i + 1) (take k s)) ≡ r
+  unfolding numberAfter
+  number-on v h l o e =
+      let long : i < length (take k s) = simp length-take (omega arith) in
+      rw (e, ← getD-take k s i 0 (omega arith)) (rw (step (take k s) i long) at known)
+
+  pub number-full : i ≡ k → n ≡ r
+  unfolding numberAfter
+  number-full e = rw (ended (take k s) i (simp length-take (omega arith))) at known
+
+  pub number-ends : length s ≤ i → n ≡ r
+  unfolding numberAfter
+  number-ends h = rw (ended (take k s) i (simp length-take (omega arith))) at known
+
+-- ---- digits, written from the last place to the first
+pub digits-start : (s : List ℕ) (n : ℕ) → digits (length s) n ++ drop (length s) s ≡ digits (length s) n
+digits-start s n = rw drop-length (append-nil (digits (length s) n))
+
+pub digits-on : (s : List ℕ) (i n : ℕ) → 0 < i → i ≤ length s → digits (i - 1) (n / 10) ++ drop (i - 1) (set s (i - 1) (48 + n % 10)) ≡ digits i n ++ drop i s
+unfolding digits
+digits-on s zero n p h = absurd (omega arith)
+digits-on s (suc i) n p h =
+    let back : suc i - 1 ≡ i = omega arith in
+    let long : i < length (set s i (48 + n % 10)) = simp length-set (omega arith) in
+    rw (back, step (set s i (48 + n % 10)) i long, getD-set-same s i (48 + n % 10) 0 (omega arith), add-one, drop-set-lt (suc i) s i (48 + n % 10) (omega arith))
+    (sym (append-assoc (digits i (n / 10)) ((48 + n % 10) ∷ []) (drop (suc i) s)))
+
+pub digits-done : (s : List ℕ) (i n : ℕ) → i ≤ 0 → digits i n ++ drop i s ≡ s
+unfolding digits
+digits-done s i n h = let z : i ≡ 0 = omega arith in rw z

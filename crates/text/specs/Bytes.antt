@@ -1,0 +1,21 @@
+-- Classes of bytes. A byte is a number below 256.
+use Prim.Native.Nat.{ℕ}
+use mathlib.Core.List.{List, [], _∷_}
+use mathlib.Core.Bool.{Bool, true, _&&_}
+use lib.Dec.{leb}
+
+-- 0 to 9
+abbrev pub isDigit : ℕ → Bool
+isDigit b = leb 48 b && leb b 57
+
+-- A to Z
+abbrev pub isCapital : ℕ → Bool
+isCapital b = leb 65 b && leb b 90
+
+-- each byte of a list passes a test
+unfoldable pub every : (ℕ → Bool) → List ℕ → Bool
+every test [] = true
+every test (b ∷ bs) = test b && every test bs
+
+abbrev pub allDigits : List ℕ → Bool
+allDigits = every isDigit

@@ -1,0 +1,73 @@
+// What all parts share: the answer, byte classes, digits and the numbers that they write.
+ghost use mathlib.Core.Path.{_≡_};
+ghost use Prim.Native.Nat.{_-_, _<_};
+ghost use lib.ListN.{length};
+ghost use Rattle.text.specs.Bytes.{isDigit, isCapital, allDigits};
+ghost use Rattle.text.specs.Numbers.{numberOfFirst, digits};
+
+// What a call answers: the paper's code and place; 0 and 0 where it accepts.
+pub struct Answer {
+    pub code: u32,
+    pub place: u32,
+}
+
+pub fn is_digit(b: u8) -> bool
+    ensures { λ r. ⌜ r ≡ isDigit b ⌝ }
+{
+    (48 <= b) & (b <= 57)
+}
+
+pub fn is_capital(b: u8) -> bool
+    ensures { λ r. ⌜ r ≡ isCapital b ⌝ }
+{
+    (65 <= b) & (b <= 90)
+}
+
+pub fn all_digits(s: &[u8]) -> bool
+    ensures { λ r. ⌜ r ≡ allDigits (now (s .entry)) ⌝ }
+{
+    let mut i = 0;
+    while i < s.len() {
+        if !is_digit(s[i]) {
+            return false;
+        }
+        i += 1;
+    }
+    true
+}
+
+// A digit's value; 0 for a byte below the digits.
+pub fn digit_value(b: u8) -> u64
+    ensures { λ r. ⌜ (r ≡ b - 48) × (r < 208) ⌝ }
+{
+    if b < 48 { 0 } else { (b - 48) as u64 }
+}
+
+// The number that digits write. No field has more than 16 of them, and so the bytes behind the 16th are not read.
+pub fn number(s: &[u8]) -> u64
+    ensures { λ r. ⌜ r ≡ numberOfFirst 16 (now (s .entry)) ⌝ }
+{
+    let mut n: u64 = 0;
+    let mut i = 0;
+    while i < s.len() {
+        if i == 16 {
+            return n;
+        }
+        n = n * 10 + digit_value(s[i]);
+        i += 1;
+    }
+    n
+}
+
+// Fills the lent part with the last decimal places of n, as many as it is long.
+pub fn put_digits(part: &mut [u8], n: u64)
+    ensures { λ _. ⌜ now (part .exit) ≡ digits (length (now (part .entry))) n ⌝ }
+{
+    let mut i = part.len();
+    let mut rest = n;
+    while 0 < i {
+        i -= 1;
+        part[i] = (48 + rest % 10) as u8;
+        rest = rest / 10;
+    }
+}
