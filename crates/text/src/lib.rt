@@ -14,13 +14,13 @@ pub struct Answer {
 pub fn is_digit(b: u8) -> bool
     ensures { λ r. ⌜ r ≡ isDigit b ⌝ }
 {
-    (48 <= b) & (b <= 57)
+    (b'0' <= b) & (b <= b'9')
 }
 
 pub fn is_capital(b: u8) -> bool
     ensures { λ r. ⌜ r ≡ isCapital b ⌝ }
 {
-    (65 <= b) & (b <= 90)
+    (b'A' <= b) & (b <= b'Z')
 }
 
 pub fn all_digits(s: &[u8]) -> bool
@@ -40,7 +40,7 @@ pub fn all_digits(s: &[u8]) -> bool
 pub fn digit_value(b: u8) -> u64
     ensures { λ r. ⌜ (r ≡ b - 48) × (r < 208) ⌝ }
 {
-    if b < 48 { 0 } else { (b - 48) as u64 }
+    if b < b'0' { 0 } else { (b - b'0') as u64 }
 }
 
 // The number that digits write. No field has more than 16 of them, and so the bytes behind the 16th are not read.

@@ -1,0 +1,7 @@
+pub mod Shapes
+pub mod Sums
+pub mod Ways
+pub mod Writing
+pub mod Facts
+pub mod SingleDigits
+pub mod RoundTrip
