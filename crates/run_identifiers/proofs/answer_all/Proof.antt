@@ -1,0 +1,35 @@
+-- `run_identifiers::answer_all` is safe and ends: the measure is the turns that are left.
+-- Assumes nothing.
+use native.Mathlib.Omega.{arith}
+use Rattle.run_identifiers.proofs.answer_all.Statement.{statement}
+use Rattle.run_identifiers.proofs.answer_all.Tie as tie
+
+abbrev Inv-loop : tie.InvT-loop
+Inv-loop fd turns₀ turns = Unit {0}
+
+abbrev μ-loop : tie.MeasureT-loop
+μ-loop fd turns₀ turns = turns
+
+loop-holds : tie.Need-loop-holds Inv-loop μ-loop
+loop-holds c = tt
+
+answer-next-requires : tie.Need-answer-next-requires Inv-loop μ-loop
+answer-next-requires c κs = tt
+
+returns : tie.Need-returns Inv-loop μ-loop
+returns c = tt
+
+sub-turns : tie.Need-sub-turns Inv-loop μ-loop
+sub-turns c = omega arith
+
+loop-less : tie.Need-loop-less Inv-loop μ-loop
+loop-less c = omega arith
+
+loop-again : tie.Need-loop-again Inv-loop μ-loop
+loop-again c = tt
+
+returns-2 : tie.Need-returns-2 Inv-loop μ-loop
+returns-2 c = tt
+
+pub answer-all-spec : {M : Type 1} → statement M
+answer-all-spec = tie.close (tie.spec Inv-loop μ-loop loop-holds answer-next-requires returns sub-turns loop-less loop-again returns-2)

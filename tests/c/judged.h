@@ -1,0 +1,70 @@
+/*
+ * What the C tests share: counting what was asked, and reading judged items. A file of items has,
+ * for each, four bytes of length, little-endian, and the bytes.
+ */
+#ifndef JUDGED_H
+#define JUDGED_H
+
+#include <inttypes.h>
+#include <stdint.h>
+#include <stdio.h>
+#include <stdlib.h>
+
+struct item {
+    uint8_t *bytes;
+    size_t length;
+};
+
+static unsigned long asked, wrong;
+
+/* Ends the test where what it was given cannot serve. */
+static inline void give_up(const char *what, const char *why)
+{
+    fprintf(stderr, "%s: %s\n", what, why);
+    exit(2);
+}
+
+/* Counts one answer, and tells of it where it is not the expected one. */
+static inline void expect(const char *what, unsigned long number, uint64_t got, uint64_t expected)
+{
+    asked++;
+    if (got != expected) {
+        wrong++;
+        fprintf(stderr, "%s %lu: answered %" PRIu64 ", expected %" PRIu64 "\n", what, number, got, expected);
+    }
+}
+
+static inline FILE *open_or_give_up(const char *path)
+{
+    FILE *file = fopen(path, "rb");
+    if (file == NULL)
+        give_up(path, "cannot be opened");
+    return file;
+}
+
+/* The next item, in memory of exactly its length, which the caller frees; 0 at the file's end. */
+static inline int next_item(FILE *from, const char *path, struct item *item)
+{
+    uint8_t head[4];
+    size_t got = fread(head, 1, sizeof head, from);
+    if (got == 0 && feof(from))
+        return 0;
+    if (got != sizeof head)
+        give_up(path, "cut short in a length");
+    item->length = head[0] | (size_t)head[1] << 8 | (size_t)head[2] << 16 | (size_t)head[3] << 24;
+    item->bytes = malloc(item->length);
+    if (item->bytes == NULL && item->length != 0)
+        give_up(path, "an item too long for the memory");
+    if (fread(item->bytes, 1, item->length, from) != item->length)
+        give_up(path, "cut short in an item");
+    return 1;
+}
+
+/* Prints the summary, and gives the status to end with. */
+static inline int summary(const char *test)
+{
+    printf("%s: %lu answers, %lu wrong\n", test, asked, wrong);
+    return wrong == 0 ? 0 : 1;
+}
+
+#endif
