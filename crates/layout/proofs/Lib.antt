@@ -1,0 +1,2 @@
+pub mod Tiling
+pub mod Ways

@@ -1,0 +1,51 @@
+-- Each way out of the functions, from the facts that are known there.
+-- Assumes nothing.
+use Prim.Native.Nat.{ℕ, _+_, _-_, _≤_, _<_}
+use mathlib.Core.Path.{_≡_, refl, sym, _∙_}
+use mathlib.Core.Bool.{Bool, true, false, not, _&&_, cond, and-eq-true-iff}
+use mathlib.Core.List.{List, []}
+use native.Mathlib.Nat.{add-sub-cancel-left}
+use native.Mathlib.Omega.{arith}
+use borrow.Author.Tests.{eq-eqb, ne-eqb, not-true, not-false, leb-true, eqb-true}
+use lib.Dec.{eqb, leb}
+use lib.ListN.{length, getD, take, drop}
+use Rattle.text.specs.Answers.{answer, accepted}
+use Rattle.layout.specs.Widths.{start, cut}
+use Rattle.layout.specs.Layout.{widths, starts, isField, fieldOf, fieldAnswer, Field, FieldAnswered}
+use Rattle.layout.proofs.Tiling.{field-within, starts-nth}
+
+-- ---- cut_out
+module _ (rec : List ℕ) (n : ℕ) (pre : (length rec ≡ 399) × (1 ≤ n) × (n ≤ 26)) where
+  pub ends-within : getD starts (n - 1) 0 + getD widths (n - 1) 0 ≤ 399
+  ends-within = omega (arith, field-within widths (n - 1) (omega arith), starts-nth widths (n - 1) (omega arith))
+
+  pub cut-is : take (getD starts (n - 1) 0 + getD widths (n - 1) 0 - getD starts (n - 1) 0) (drop (getD starts (n - 1) 0) rec) ≡ cut widths rec (n - 1)
+  cut-is = rw (add-sub-cancel-left, starts-nth widths (n - 1) (omega arith))
+
+-- ---- field, field_answer
+module _ (rec : List ℕ) (n : ℕ) (b : Bool) (eb : b ≡ isField n) where
+  pub there : (eqb (length rec) 399 && b) ≡ true → (length rec ≡ 399) × (1 ≤ n) × (n ≤ 26)
+  there h =
+      let both = and-eq-true-iff (eqb (length rec) 399) b .0 h in
+      let range = and-eq-true-iff (leb 1 n) (leb n 26) .0 (sym eb ∙ both .1) in
+      (eqb-true (length rec) 399 (both .0), leb-true 1 n (range .0), leb-true n 26 (range .1))
+
+  pub the-field : (f : List ℕ) → (eqb (length rec) 399 && b) ≡ true → f ≡ cut widths rec (n - 1) → Field rec n f
+  unfolding fieldOf
+  the-field f h e = rw (← eb, h) e
+
+  pub no-field : (eqb (length rec) 399 && b) ≡ false → Field rec n []
+  unfolding fieldOf
+  no-field h = rw (← eb, h)
+
+  pub answers-there : length rec ≡ 399 → b ≡ true → FieldAnswered rec n accepted
+  unfolding fieldAnswer
+  answers-there e t = rw (eq-eqb (length rec) 399 e, ← eb, t)
+
+  pub answers-none : length rec ≡ 399 → b ≡ false → FieldAnswered rec n (answer 210 0)
+  unfolding fieldAnswer
+  answers-none e t = rw (eq-eqb (length rec) 399 e, ← eb, t)
+
+pub answers-length : (rec : List ℕ) (n : ℕ) → (length rec ≡ 399 → ⊥) → FieldAnswered rec n (answer 236 0)
+unfolding fieldAnswer
+answers-length rec n e = rw (ne-eqb (length rec) 399 e)
