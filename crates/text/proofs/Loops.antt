@@ -7,11 +7,11 @@ use mathlib.Core.List.{List, [], _∷_, _++_, append-assoc, append-nil}
 use native.Mathlib.Nat.{add-comm}
 use native.Mathlib.Numerals.{add-one}
 use native.Mathlib.Omega.{arith}
-use borrow.Author.Tests.{not-true, not-false}
-use lib.ListN.{length, getD, take, drop, set, length-take, length-set}
+use borrow.Author.Tests.{eq-eqb, ne-eqb, lt-ltb, le-ltb, not-true, not-false}
+use lib.ListN.{length, getD, take, drop, set, replicate, length-take, length-set, length-replicate}
 use lib.Seq.{getD-take, drop-set-lt, getD-set-same, drop-length}
-use Rattle.text.specs.Bytes.{every}
-use Rattle.text.specs.Numbers.{numberAfter, digits}
+use Rattle.text.specs.Bytes.{every, isBlank, run}
+use Rattle.text.specs.Numbers.{numberAfter, digits, placesUpTo}
 use Rattle.text.proofs.Lists.{step, ended}
 
 -- ---- a test at each byte
@@ -60,3 +60,63 @@ digits-on s (suc i) n p h =
 pub digits-done : (s : List ℕ) (i n : ℕ) → i ≤ 0 → digits i n ++ drop i s ≡ s
 unfolding digits
 digits-done s i n h = let z : i ≡ 0 = omega arith in rw z
+
+-- ---- blank
+module _ (s : List ℕ) (i : ℕ) (r : Bool) (known : isBlank (drop i s) ≡ r) (h : i < length s) where
+  pub blank-fails : (getD s i 0 ≡ 32 → ⊥) → false ≡ r
+  unfolding every
+  blank-fails n = rw (step s i h, ne-eqb (getD s i 0) 32 n) at known
+
+  pub blank-on : getD s i 0 ≡ 32 → isBlank (drop (i + 1) s) ≡ r
+  unfolding every
+  blank-on e = rw (step s i h, eq-eqb (getD s i 0) 32 e) at known
+
+-- ---- the bytes at the front that pass a test
+module _ (test : ℕ → Bool) (s : List ℕ) (i r : ℕ) (known : i + run test (drop i s) ≡ r) where
+  pub run-stops : (b : Bool) → i < length s → b ≡ test (getD s i 0) → not b ≡ true → i ≡ r
+  unfolding run
+  run-stops b h e n =
+      let here : run test (drop i s) ≡ 0 = rw (step s i h, ← e, not-true b n) in
+      omega arith
+
+  pub run-on : (b : Bool) → i < length s → b ≡ test (getD s i 0) → not b ≡ false → i + 1 + run test (drop (i + 1) s) ≡ r
+  unfolding run
+  run-on b h e n =
+      let here : run test (drop i s) ≡ suc (run test (drop (i + 1) s)) = rw (step s i h, ← e, not-false b n) in
+      omega arith
+
+  pub run-ends : length s ≤ i → i ≡ r
+  unfolding run
+  run-ends h =
+      let here : run test (drop i s) ≡ 0 = rw (ended s i h) in
+      omega arith
+
+-- ---- how many places a number has
+places-one : (k n : ℕ) → n < 10 → placesUpTo k n ≡ 1
+unfolding placesUpTo
+places-one zero n h = refl
+places-one (suc k) n h = rw (lt-ltb n 10 h)
+
+places-step : (k n : ℕ) → 10 ≤ n → placesUpTo (suc k) n ≡ suc (placesUpTo k (n / 10))
+unfolding placesUpTo
+places-step k n h = rw (le-ltb n 10 h)
+
+-- c places seen, at most k to come
+module _ (c k n r : ℕ) (known : c + placesUpTo k n ≡ r + 1) where
+  pub places-stop : n < 10 → c ≡ r
+  places-stop h = omega (arith, places-one k n h)
+
+pub places-on : (c n r : ℕ) → c < 20 → c + placesUpTo (20 - c) n ≡ r + 1 → 10 ≤ n → c + 1 + placesUpTo (20 - (c + 1)) (n / 10) ≡ r + 1
+places-on c n r l known h =
+    let e : 20 - c ≡ suc (20 - (c + 1)) = omega arith in
+    omega (arith, rw e at known, places-step (20 - (c + 1)) n h)
+
+pub places-last : (c n r : ℕ) → c ≡ 20 → c + placesUpTo (20 - c) n ≡ r + 1 → c ≡ r
+unfolding placesUpTo
+places-last c n r e known = omega (arith, rw e at known)
+
+-- ---- one byte in every place
+pub filled-all : (b : ℕ) (s : List ℕ) (i : ℕ) → length s ≤ i → i ≤ length s → replicate i b ++ drop i s ≡ replicate (length s) b
+filled-all b s i h l =
+    let e : i ≡ length s = omega arith in
+    rw (e, drop-length) (append-nil (replicate (length s) b))

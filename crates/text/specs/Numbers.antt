@@ -1,6 +1,8 @@
 -- Digits and the numbers that they write, both ways. A digit's value is its byte less 48.
 use Prim.Native.Nat.{ℕ, zero, suc, _+_, _-_, _*_, _/_, _%_}
 use mathlib.Core.List.{List, [], _∷_, _++_}
+use mathlib.Core.Bool.{cond}
+use lib.Dec.{ltb}
 use lib.ListN.{take}
 
 -- the number that digits write, behind the digits of n
@@ -18,3 +20,16 @@ numberOfFirst k ds = numberOf (take k ds)
 unfoldable pub digits : ℕ → ℕ → List ℕ
 digits zero n = []
 digits (suc w) n = digits w (n / 10) ++ (48 + n % 10) ∷ []
+
+-- how many decimal places n has: at least 1, at most k + 1
+unfoldable pub placesUpTo : ℕ → ℕ → ℕ
+placesUpTo zero n = 1
+placesUpTo (suc k) n = cond (ltb n 10) 1 (suc (placesUpTo k (n / 10)))
+
+-- the places of a number of 64 bits: it has at most 20
+abbrev pub places : ℕ → ℕ
+places n = placesUpTo 19 n
+
+-- n in decimal, with no leading zero but a lone 0
+abbrev pub decimal : ℕ → List ℕ
+decimal n = digits (places n) n

@@ -1,9 +1,9 @@
 // What all parts share: the answer, byte classes, digits and the numbers that they write.
 ghost use mathlib.Core.Path.{_≡_};
-ghost use Prim.Native.Nat.{_-_, _<_};
-ghost use lib.ListN.{length};
-ghost use Rattle.text.specs.Bytes.{isDigit, isCapital, allDigits};
-ghost use Rattle.text.specs.Numbers.{numberOfFirst, digits};
+ghost use Prim.Native.Nat.{_-_, _≤_, _<_};
+ghost use lib.ListN.{length, replicate};
+ghost use Rattle.text.specs.Bytes.{isDigit, isCapital, allDigits, isBlank, run};
+ghost use Rattle.text.specs.Numbers.{numberOfFirst, digits, places};
 
 // What a call answers: the paper's code and place; 0 and 0 where it accepts.
 pub struct Answer {
@@ -34,6 +34,33 @@ pub fn all_digits(s: &[u8]) -> bool
         i += 1;
     }
     true
+}
+
+pub fn blank(s: &[u8]) -> bool
+    ensures { λ r. ⌜ r ≡ isBlank (now (s .entry)) ⌝ }
+{
+    let mut i = 0;
+    while i < s.len() {
+        if s[i] != b' ' {
+            return false;
+        }
+        i += 1;
+    }
+    true
+}
+
+// How many digits stand at the front.
+pub fn leading_digits(s: &[u8]) -> usize
+    ensures { λ r. ⌜ (r ≡ run isDigit (now (s .entry))) × (r ≤ length (now (s .entry))) ⌝ }
+{
+    let mut i = 0;
+    while i < s.len() {
+        if !is_digit(s[i]) {
+            return i;
+        }
+        i += 1;
+    }
+    i
 }
 
 // A digit's value; 0 for a byte below the digits.
@@ -69,5 +96,31 @@ pub fn put_digits(part: &mut [u8], n: u64)
         i -= 1;
         part[i] = (48 + rest % 10) as u8;
         rest = rest / 10;
+    }
+}
+
+// As many decimal places as n has.
+pub fn places(n: u64) -> usize
+    ensures { λ r. ⌜ (r ≡ places n) × (1 ≤ r) × (r ≤ 20) ⌝ }
+{
+    let mut rest = n;
+    let mut count: usize = 1;
+    while count < 20 {
+        if rest < 10 {
+            return count;
+        }
+        rest = rest / 10;
+        count += 1;
+    }
+    count
+}
+
+pub fn fill(part: &mut [u8], b: u8)
+    ensures { λ _. ⌜ now (part .exit) ≡ replicate (length (now (part .entry))) b ⌝ }
+{
+    let mut i = 0;
+    while i < part.len() {
+        part[i] = b;
+        i += 1;
     }
 }
