@@ -1,0 +1,210 @@
+/*
+ * The file check from C: the judged vectors, every prefix of a good file, the largest files, the paper's example 14.
+ * The bytes asked about always end where memory that cannot be read begins, and cannot be written during the call.
+ */
+#define _DEFAULT_SOURCE /* for MAP_ANONYMOUS */
+#include "fuganorezi.h"
+#include "good_file.h"
+#include "judged.h"
+
+#include <sys/mman.h>
+#include <unistd.h>
+
+enum { MOST_RECORDS = 999, PREFIX_RECORDS = 2 * GOOD_KINDS, NUMBERS = 7 };
+
+/* Memory for one byte and one record more than the largest file, and behind it a page that cannot be read. */
+struct fenced {
+    uint8_t *start, *fence;
+};
+
+static struct fenced fenced_memory(void)
+{
+    size_t page = (size_t)sysconf(_SC_PAGESIZE);
+    size_t wanted = (size_t)(MOST_RECORDS + 1) * GOOD_STEP + 1;
+    size_t room = (wanted + page - 1) / page * page;
+    void *start = mmap(NULL, room + page, PROT_READ | PROT_WRITE, MAP_PRIVATE | MAP_ANONYMOUS, -1, 0);
+    if (start == MAP_FAILED)
+        give_up("mmap", "no memory");
+    struct fenced memory = {start, (uint8_t *)start + room};
+    if (mprotect(memory.fence, page, PROT_NONE) != 0)
+        give_up("mprotect", "cannot fence memory");
+    return memory;
+}
+
+static struct fenced memory;
+
+static void protect_bytes(int protection)
+{
+    if (mprotect(memory.start, (size_t)(memory.fence - memory.start), protection) != 0)
+        give_up("mprotect", "cannot protect memory");
+}
+
+static void expect_numbers(const char *what, unsigned long number, uint32_t code, const uint64_t out[NUMBERS],
+                           const uint64_t expected[NUMBERS])
+{
+    expect(what, number, code, expected[0]);
+    for (int i = 0; i < NUMBERS; i++)
+        expect(what, number, out[i], expected[i]);
+}
+
+/* Asks about bytes that stand before the fence already. */
+static void ask_fenced(const char *what, unsigned long number, size_t length, const uint64_t expected[NUMBERS])
+{
+    const uint64_t untouched = UINT64_C(0x5a5a5a5a5a5a5a5a);
+    uint64_t around[NUMBERS + 2];
+    for (int i = 0; i < NUMBERS + 2; i++)
+        around[i] = untouched;
+    protect_bytes(PROT_READ);
+    uint32_t code = fuganorezi_file_check(memory.fence - length, length, around + 1);
+    protect_bytes(PROT_READ | PROT_WRITE);
+    expect_numbers(what, number, code, around + 1, expected);
+    expect(what, number, around[0], untouched);
+    expect(what, number, around[NUMBERS + 1], untouched);
+}
+
+static void ask(const char *what, unsigned long number, const uint8_t *bytes, size_t length,
+                const uint64_t expected[NUMBERS])
+{
+    if (length > (size_t)(memory.fence - memory.start))
+        give_up(what, "longer than the fenced memory");
+    if (length != 0)
+        memcpy(memory.fence - length, bytes, length);
+    ask_fenced(what, number, length, expected);
+}
+
+static void ask_refused(const char *what, const uint8_t *bytes, size_t length, uint64_t code, uint64_t record,
+                        uint64_t place)
+{
+    const uint64_t expected[NUMBERS] = {code, record, place};
+    ask(what, length, bytes, length, expected);
+}
+
+static void ask_accepted(const char *what, const uint8_t *bytes, unsigned records)
+{
+    struct good_totals totals = good_totals(records);
+    const uint64_t expected[NUMBERS] = {0, 0, 0, totals.live, totals.cancelled, totals.cash, totals.price};
+    ask(what, records, bytes, (size_t)records * GOOD_STEP, expected);
+}
+
+static void ask_no_bytes(void)
+{
+    const uint64_t zeros[NUMBERS] = {0};
+    uint64_t out[NUMBERS] = {1, 1, 1, 1, 1, 1, 1};
+    uint32_t code = fuganorezi_file_check(NULL, 0, out);
+    expect_numbers("NULL", 0, code, out, zeros);
+}
+
+static void ask_example_14(void)
+{
+    uint8_t spaces[GOOD_STEP];
+    memset(spaces, ' ', sizeof spaces);
+    ask_refused("400 spaces", spaces, 400, 211, 0, 0);
+    ask_refused("401 spaces", spaces, 401, 212, 1, 0);
+}
+
+static void ask_prefixes(const uint8_t *file)
+{
+    for (unsigned length = 0; length <= PREFIX_RECORDS * GOOD_STEP; length++) {
+        if (length % GOOD_STEP == 0)
+            ask_accepted("prefix of whole records", file, length / GOOD_STEP);
+        else
+            ask_refused("prefix", file, length, 211, 0, 0);
+    }
+}
+
+/* An earlier record once more at the end, live and cancelled: neither status hides that it was there. */
+static void ask_repeated(uint8_t *file, unsigned records, unsigned earlier)
+{
+    enum { STATUS = 340 };
+    uint8_t *last = file + (size_t)(records - 1) * GOOD_STEP;
+    put_good_record(last, earlier);
+    last[STATUS] = ' ';
+    ask_refused("repeated identifier, live", file, (size_t)records * GOOD_STEP, 2, records, 1);
+    last[STATUS] = '0';
+    ask_refused("repeated identifier, cancelled", file, (size_t)records * GOOD_STEP, 2, records, 1);
+    put_good_record(last, records);
+}
+
+static void ask_large(uint8_t *file)
+{
+    const size_t over = (size_t)(MOST_RECORDS + 1) * GOOD_STEP;
+    ask_accepted("998 records", file, MOST_RECORDS - 1);
+    ask_accepted("999 records", file, MOST_RECORDS);
+    ask_repeated(file, MOST_RECORDS, 1);
+    ask_repeated(file, MOST_RECORDS, MOST_RECORDS / 2);
+    ask_repeated(file, MOST_RECORDS, MOST_RECORDS - 1);
+    ask_refused("1000 records", file, over, 213, 0, 0);
+    ask_refused("1000 records and a byte", file, over + 1, 211, 0, 0);
+}
+
+/* Of each kind of record, the cancelled one among them. */
+static void ask_repeated_kinds(uint8_t *file)
+{
+    for (unsigned number = 1; number <= GOOD_KINDS; number++)
+        ask_repeated(file, GOOD_KINDS + 1, number);
+}
+
+/* A line end is asked for before the record is looked at, and only of the first record that is wrong. */
+static void ask_line_ends(uint8_t *file)
+{
+    static const char *const wrong_ends[] = {"\n\r", "\r\r", "\n\n", "  ", " \n", "\r "};
+    const size_t length = 3 * GOOD_STEP;
+    uint8_t *end = file + 2 * GOOD_STEP - 2;
+    for (size_t i = 0; i < sizeof wrong_ends / sizeof wrong_ends[0]; i++) {
+        memcpy(end, wrong_ends[i], 2);
+        ask_refused("line end", file, length, 212, 2, 0);
+    }
+    file[GOOD_STEP] = '?';
+    ask_refused("line end before identifier", file, length, 212, 2, 0);
+    file[0] = '?';
+    ask_refused("first record first", file, length, 1, 1, 1);
+    put_good_file(file, 2);
+}
+
+static void ask_made_files(void)
+{
+    static uint8_t file[(MOST_RECORDS + 1) * GOOD_STEP + 1];
+    put_good_file(file, MOST_RECORDS + 1);
+    ask_prefixes(file);
+    ask_large(file);
+    ask_repeated_kinds(file);
+    ask_line_ends(file);
+    ask_accepted("999 records again", file, MOST_RECORDS);
+}
+
+static void read_numbers(FILE *lines, const char *path, uint64_t numbers[NUMBERS])
+{
+    for (int i = 0; i < NUMBERS; i++)
+        if (fscanf(lines, "%" SCNu64, &numbers[i]) != 1)
+            give_up(path, "fewer lines than items");
+}
+
+static void ask_vectors(const char *items_path, const char *lines_path)
+{
+    FILE *items = open_or_give_up(items_path);
+    FILE *lines = open_or_give_up(lines_path);
+    struct item item;
+    unsigned long number = 0;
+    uint64_t expected[NUMBERS];
+    while (next_item(items, items_path, &item)) {
+        read_numbers(lines, lines_path, expected);
+        ask(items_path, ++number, item.bytes, item.length, expected);
+        free(item.bytes);
+    }
+    if (fscanf(lines, "%" SCNu64, &expected[0]) == 1)
+        give_up(lines_path, "more lines than items");
+    fclose(items);
+    fclose(lines);
+}
+
+int main(int count, char **words)
+{
+    if (count != 3)
+        give_up(words[0], "wants a file of items and one of their lines");
+    memory = fenced_memory();
+    ask_no_bytes();
+    ask_example_14();
+    ask_made_files();
+    ask_vectors(words[1], words[2]);
+    return summary("files");
+}
