@@ -1,0 +1,137 @@
+/*
+ * The library's file check beside the reference in C: first that both answer judged files as judged, then the time
+ * of each on good files of several sizes.
+ */
+#define _POSIX_C_SOURCE 199309L /* for clock_gettime */
+#include "fuganorezi.h"
+#include "good_file.h"
+#include "judged.h"
+#include "reference.h"
+
+#include <time.h>
+
+enum { MOST_RECORDS = 999, RUNS = 201, NUMBERS = 7 };
+
+typedef uint32_t file_check(const uint8_t *bytes, size_t length, uint64_t out[7]);
+
+/* Answers */
+
+static void compare(const char *who, unsigned long number, file_check *check, const struct item *item,
+                    const uint64_t expected[NUMBERS])
+{
+    uint64_t out[NUMBERS];
+    uint32_t code = check(item->bytes, item->length, out);
+    expect(who, number, code, expected[0]);
+    for (int i = 0; i < NUMBERS; i++)
+        expect(who, number, out[i], expected[i]);
+}
+
+static void compare_both(const char *what, unsigned long number, const struct item *item,
+                         const uint64_t expected[NUMBERS])
+{
+    char who[64];
+    snprintf(who, sizeof who, "%s: library", what);
+    compare(who, number, fuganorezi_file_check, item, expected);
+    snprintf(who, sizeof who, "%s: C", what);
+    compare(who, number, reference_file_check, item, expected);
+}
+
+static void compare_on_vectors(const char *items_path, const char *lines_path)
+{
+    FILE *items = open_or_give_up(items_path);
+    FILE *lines = open_or_give_up(lines_path);
+    struct item item;
+    unsigned long number = 0;
+    uint64_t expected[NUMBERS];
+    while (next_item(items, items_path, &item)) {
+        for (int i = 0; i < NUMBERS; i++)
+            if (fscanf(lines, "%" SCNu64, &expected[i]) != 1)
+                give_up(lines_path, "fewer lines than items");
+        compare_both("judged file", ++number, &item, expected);
+        free(item.bytes);
+    }
+    fclose(items);
+    fclose(lines);
+}
+
+static void compare_on_good_file(uint8_t *file, unsigned records)
+{
+    struct item item = {file, (size_t)records * GOOD_STEP};
+    struct good_totals totals = good_totals(records);
+    const uint64_t expected[NUMBERS] = {0, 0, 0, totals.live, totals.cancelled, totals.cash, totals.price};
+    compare_both("good file", records, &item, expected);
+}
+
+/* Times */
+
+static uint64_t now_in_nanoseconds(void)
+{
+    struct timespec now;
+    if (clock_gettime(CLOCK_MONOTONIC, &now) != 0)
+        give_up("clock_gettime", "no clock");
+    return (uint64_t)now.tv_sec * 1000000000 + (uint64_t)now.tv_nsec;
+}
+
+static uint64_t time_of_calls(file_check *check, const uint8_t *file, unsigned records, unsigned long calls)
+{
+    uint64_t out[NUMBERS];
+    uint64_t start = now_in_nanoseconds();
+    for (unsigned long i = 0; i < calls; i++)
+        if (check(file, (size_t)records * GOOD_STEP, out) != 0)
+            give_up("a good file", "was refused");
+    return now_in_nanoseconds() - start;
+}
+
+/* So many calls that one run is long beside the clock's own step. */
+static unsigned long calls_for(const uint8_t *file, unsigned records)
+{
+    const uint64_t long_enough = 1000000;
+    unsigned long calls = 1;
+    while (time_of_calls(reference_file_check, file, records, calls) < long_enough)
+        calls *= 2;
+    return calls;
+}
+
+static int by_size(const void *left, const void *right)
+{
+    uint64_t a = *(const uint64_t *)left, b = *(const uint64_t *)right;
+    return (a > b) - (a < b);
+}
+
+static double median(uint64_t times[RUNS])
+{
+    qsort(times, RUNS, sizeof times[0], by_size);
+    return (double)times[RUNS / 2];
+}
+
+/* The runs take turns, so that what else the machine does falls on both. */
+static void print_times(const uint8_t *file, unsigned records)
+{
+    uint64_t library[RUNS], reference[RUNS];
+    unsigned long calls = calls_for(file, records);
+    for (int i = 0; i < RUNS; i++) {
+        library[i] = time_of_calls(fuganorezi_file_check, file, records, calls);
+        reference[i] = time_of_calls(reference_file_check, file, records, calls);
+    }
+    double of_library = median(library) / 1000 / (double)calls, of_reference = median(reference) / 1000 / (double)calls;
+    printf("%7u %14.2f %14.2f %12.2f\n", records, of_library, of_reference, of_library / of_reference);
+}
+
+int main(int count, char **words)
+{
+    static const unsigned sizes[] = {1, 10, 100, MOST_RECORDS};
+    static uint8_t file[MOST_RECORDS * GOOD_STEP];
+    if (count != 3)
+        give_up(words[0], "wants a file of items and one of their lines");
+    put_good_file(file, MOST_RECORDS);
+    compare_on_vectors(words[1], words[2]);
+    for (size_t i = 0; i < sizeof sizes / sizeof sizes[0]; i++)
+        compare_on_good_file(file, sizes[i]);
+    if (summary("answers of the library and of C") != 0)
+        return 1;
+    printf("Microseconds for one call, medians of %d runs that take turns:\n", RUNS);
+    printf("records        library              C  library / C\n");
+    for (size_t i = 0; i < sizeof sizes / sizeof sizes[0]; i++)
+        print_times(file, sizes[i]);
+    return 0;
+}
