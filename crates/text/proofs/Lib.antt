@@ -2,3 +2,5 @@ pub mod Ranges
 pub mod Lists
 pub mod Loops
 pub mod Numbers
+pub mod Decimals
+pub mod Runs

@@ -13,6 +13,7 @@ use lib.Seq.{getD-take, drop-set-lt, getD-set-same, drop-length}
 use Rattle.text.specs.Bytes.{every, isBlank, run}
 use Rattle.text.specs.Numbers.{numberAfter, digits, placesUpTo}
 use Rattle.text.proofs.Lists.{step, ended}
+use Rattle.text.proofs.Decimals.{places-one}
 
 -- ---- a test at each byte
 module _ (test : ℕ → Bool) (s : List ℕ) (i : ℕ) (r : Bool) (known : every test (drop i s) ≡ r) where
@@ -92,11 +93,6 @@ module _ (test : ℕ → Bool) (s : List ℕ) (i r : ℕ) (known : i + run test 
       omega arith
 
 -- ---- how many places a number has
-places-one : (k n : ℕ) → n < 10 → placesUpTo k n ≡ 1
-unfolding placesUpTo
-places-one zero n h = refl
-places-one (suc k) n h = rw (lt-ltb n 10 h)
-
 places-step : (k n : ℕ) → 10 ≤ n → placesUpTo (suc k) n ≡ suc (placesUpTo k (n / 10))
 unfolding placesUpTo
 places-step k n h = rw (le-ltb n 10 h)

@@ -1,4 +1,5 @@
 pub mod Answers
+pub mod Promises
 pub mod Bytes
 pub mod Numbers
 pub mod Lists

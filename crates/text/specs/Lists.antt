@@ -1,13 +1,17 @@
 -- Parts of a list, and lists compared.
-use Prim.Native.Nat.{ℕ, _-_}
+use Prim.Native.Nat.{ℕ, _+_, _-_}
 use mathlib.Core.Bool.{Bool, true, false, _&&_}
-use mathlib.Core.List.{List, [], _∷_}
-use lib.ListN.{take, drop}
+use mathlib.Core.List.{List, [], _∷_, _++_}
+use lib.ListN.{length, take, drop}
 use lib.Dec.{eqb}
 
 -- the elements from place a up to place e, counted from 0
 abbrev pub part : {A : Type 0} → List A → ℕ → ℕ → List A
 part s a e = take (e - a) (drop a s)
+
+-- p in the place of as many elements from a on
+abbrev pub overlay : {A : Type 0} → List A → ℕ → List A → List A
+overlay s a p = take a s ++ (p ++ drop (a + length p) s)
 
 -- the same bytes in the same places
 unfoldable pub sameBytes : List ℕ → List ℕ → Bool

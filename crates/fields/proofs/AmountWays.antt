@@ -1,0 +1,269 @@
+-- Weight and money: each way out of the readers and the writers.
+-- Assumes nothing.
+use Prim.Native.Nat.{ℕ, zero, suc, _+_, _-_, _*_, _/_, _%_, _^_, _≤_, _<_}
+use mathlib.Core.Path.{_≡_, refl, sym, ap, _∙_}
+use mathlib.Core.Bool.{Bool, true, false, cond, not, _&&_, _||_, and-eq-true-iff, and-false}
+use mathlib.Core.List.{List, [], _∷_, _++_, append-assoc, append-nil}
+use native.Mathlib.Nat.{sub-zero, zero-sub}
+use native.Mathlib.Omega.{arith}
+use borrow.Author.Tests.{eq-eqb, ne-eqb, lt-ltb, le-ltb, le-leb, lt-leb, eqb-true, leb-true}
+use borrow.Rule.Slice.PartMut.{putMid, mid-len}
+use lib.Dec.{eqb, leb, ltb}
+use lib.ListN.{length, getD, take, drop, set, replicate, length-take, length-drop, length-append, length-replicate, take-append-drop}
+use lib.Seq.{getD-drop, take-at, drop-at, set-at, drop-drop, length-take-le}
+use Rattle.text.specs.Answers.{answer, accepted}
+use Rattle.text.specs.Bytes.{isDigit, every, allDigits, isBlank, run}
+use Rattle.text.specs.Lists.{part, overlay}
+use Rattle.text.specs.Numbers.{numberAfter, numberOf, numberOfFirst, digits, places, decimal}
+use Rattle.text.proofs.Lists.{spelled, put-is}
+use Rattle.text.proofs.Runs.{run-passes}
+use Rattle.text.proofs.Decimals.{places-at-most}
+use Rattle.text.proofs.Numbers.{ten, ten-grows, few-digits, number-below, length-digits, digit-bounds}
+use Rattle.fields.specs.declared.Grams.{Grams}
+use Rattle.fields.specs.declared.Hellers.{Hellers}
+use Rattle.fields.specs.declared.Sum.the-variants.{Total, TooLarge}
+use Rattle.fields.specs.declared.WeightReading.{WeightReading}
+use Rattle.fields.specs.declared.WeightReading.the-variants as Weight
+use Rattle.fields.specs.declared.MoneyReading.{MoneyReading}
+use Rattle.fields.specs.declared.MoneyReading.the-variants as Money
+use Rattle.fields.specs.Frame.{framed}
+use Rattle.fields.specs.Amounts.{isWeight, gramsIn, grams, readWeight, weightText, crownDigits, isMoney, hellersIn, hellers, readMoney, moneyText}
+use Rattle.fields.specs.Calls.{hasMoneyText, moneyBytes, hasWeightText, weightBytes, Written, MoneyWritten, WeightWritten, sumOf}
+use Rattle.fields.proofs.Frames.{frame-good, frame-bad}
+use Rattle.fields.proofs.Ways.{few}
+
+-- ---- the sum of two amounts
+pub sum-fits : (a b : Hellers) → b .0 < 2 ^ 64 → a .0 ≤ 18446744073709551615 - b .0 → Total (record { 0 = a .0 + b .0 }) ≡ sumOf a b
+unfolding sumOf
+sum-fits a b l h = rw (lt-ltb (a .0 + b .0) (2 ^ 64) (omega arith))
+
+pub sum-large : (a b : Hellers) → 18446744073709551615 - b .0 < a .0 → TooLarge ≡ sumOf a b
+unfolding sumOf
+sum-large a b h = rw (le-ltb (a .0 + b .0) (2 ^ 64) (omega arith))
+
+-- ---- weight
+pub weight-form : (f : List ℕ) (p q d : Bool) → p ≡ isDigit (getD f 0 0) → q ≡ isDigit (getD f 1 0) → d ≡ allDigits (part f 3 6)
+    → ((eqb (getD f 0 0) 32 || p && not (eqb (getD f 0 0) 48)) && q && eqb (getD f 2 0) 46 && d) ≡ isWeight f
+weight-form f p q d ep eq ed = rw (ep, eq, ed)
+
+module _ (f : List ℕ) (b g : Bool) (long : length f ≡ 6) (eb : b ≡ isBlank f) (nb : b ≡ false) (eg : g ≡ isWeight f) where
+  pub weight-value : (k m : ℕ) → g ≡ true → k ≡ numberOfFirst 16 (part f 0 2) → m ≡ numberOfFirst 16 (part f 3 6) → grams (k * 1000 + m) ≡ readWeight f
+  weight-value k m t ek em =
+      rw (ek, em, few f 0 2 (omega arith), few f 3 6 (omega arith))
+      (frame-good Weight.Absent Weight.Malformed (grams (gramsIn f)) 6 f (isWeight f) b long eb nb (sym eg ∙ t))
+
+  pub weight-bad : g ≡ false → Weight.Malformed ≡ readWeight f
+  weight-bad t = frame-bad Weight.Absent Weight.Malformed (grams (gramsIn f)) 6 f (isWeight f) b long eb nb (sym eg ∙ t)
+
+-- ---- money
+module _ (f : List ℕ) (n : ℕ) (pre : (length f ≡ 12) × (n ≡ crownDigits f)) where
+  pub money-none : n < 1 → false ≡ isMoney f
+  unfolding isMoney
+  money-none h = rw (← pre .1, lt-leb 1 n h)
+
+  pub money-many : 1 ≤ n → 9 < n → false ≡ isMoney f
+  unfolding isMoney
+  money-many l h = rw (← pre .1, le-leb 1 n l, lt-leb n 9 h)
+
+  pub money-form : (d s : Bool) → 1 ≤ n → n ≤ 9 → d ≡ allDigits (part f (n + 1) (n + 3)) → s ≡ isBlank (part f (n + 3) 12)
+      → ((eqb n 1 || not (eqb (getD f 0 0) 48)) && eqb (getD f n 0) 46 && d && s) ≡ isMoney f
+  unfolding isMoney
+  money-form d s l h ed es = rw (← pre .1, le-leb 1 n l, le-leb n 9 h, ed, es)
+
+both : (a b : Bool) → (a && b) ≡ true → (a ≡ true) × (b ≡ true)
+both a b h = and-eq-true-iff a b .0 h
+
+-- what an amount has
+pub record Amount (f : List ℕ) : Type 0 where
+  pub some : 1 ≤ crownDigits f
+  pub few-crowns : crownDigits f ≤ 9
+  pub no-zero : (eqb (crownDigits f) 1 || not (eqb (getD f 0 0) 48)) ≡ true
+  pub dot : getD f (crownDigits f) 0 ≡ 46
+  pub places : allDigits (part f (crownDigits f + 1) (crownDigits f + 3)) ≡ true
+  pub rest : isBlank (part f (crownDigits f + 3) 12) ≡ true
+
+pub money-facts : (f : List ℕ) → isMoney f ≡ true → Amount f
+unfolding isMoney
+money-facts f h =
+    let a = both _ (isBlank (part f (crownDigits f + 3) 12)) h in
+    let b = both _ (allDigits (part f (crownDigits f + 1) (crownDigits f + 3))) (a .0) in
+    let d = both _ (eqb (getD f (crownDigits f) 0) 46) (b .0) in
+    let e = both _ (eqb (crownDigits f) 1 || not (eqb (getD f 0 0) 48)) (d .0) in
+    let g = both (leb 1 (crownDigits f)) (leb (crownDigits f) 9) (e .0) in
+    record {
+      some = leb-true 1 (crownDigits f) (g .0);
+      few-crowns = leb-true (crownDigits f) 9 (g .1);
+      no-zero = e .1;
+      dot = eqb-true (getD f (crownDigits f) 0) 46 (d .1);
+      places = b .1;
+      rest = a .1;
+    }
+
+module _ (f : List ℕ) (n : ℕ) (pre : (length f ≡ 12) × (n ≡ crownDigits f) × (isMoney f ≡ true)) where
+  has : Amount f
+  has = money-facts f (pre .2)
+
+  pub nine-digits : (1 ≤ n) × (n ≤ 9)
+  nine-digits = (omega (arith, has .some, pre .1), omega (arith, has .few-crowns, pre .1))
+
+  pub crowns-small : (c : ℕ) → c ≡ numberOfFirst 16 (part f 0 n) → c < 1000000000
+  crowns-small c e =
+      let whole : c ≡ numberOf (take n f) = e ∙ few f 0 n (omega (arith, nine-digits)) ∙ ap (λ (k : ℕ). numberOf (take k f)) (sub-zero n) in
+      let all : allDigits (take n f) ≡ true = rw (pre .1) (run-passes isDigit f) in
+      let below = number-below n (take n f) (length-take-le n f (omega (arith, nine-digits, pre .0))) all in
+      omega (arith, ten-grows n 9 (nine-digits .1))
+
+  pub places-small : (p : ℕ) → p ≡ numberOfFirst 16 (part f (n + 1) (n + 3)) → p < 100
+  places-small p e =
+      let whole : p ≡ numberOf (part f (n + 1) (n + 3)) = e ∙ few f (n + 1) (n + 3) (omega arith) in
+      let all : allDigits (part f (n + 1) (n + 3)) ≡ true = rw (pre .1) (has .places) in
+      let two : length (part f (n + 1) (n + 3)) ≡ 2 = mid-len (n + 1) (n + 3) f (omega (arith, nine-digits, pre .0)) ∙ omega arith in
+      omega (arith, number-below 2 (part f (n + 1) (n + 3)) two all)
+
+  pub hellers-are : (c p : ℕ) → c ≡ numberOfFirst 16 (part f 0 n) → p ≡ numberOfFirst 16 (part f (n + 1) (n + 3)) → c * 100 + p ≡ hellersIn f
+  hellers-are c p ec ep = rw (ec, ep, few f 0 n (omega (arith, nine-digits)), few f (n + 1) (n + 3) (omega arith), pre .1)
+
+module _ (f : List ℕ) (b g : Bool) (n : ℕ) (long : length f ≡ 12) (eb : b ≡ isBlank f) (nb : b ≡ false) (eg : g ≡ isMoney f) where
+  pub money-value : (v : ℕ) → g ≡ true → v ≡ hellersIn f → hellers v ≡ readMoney f
+  money-value v t e = rw e (frame-good Money.Absent Money.Malformed (hellers (hellersIn f)) 12 f (isMoney f) b long eb nb (sym eg ∙ t))
+
+  pub money-bad : g ≡ false → Money.Malformed ≡ readMoney f
+  money-bad t = frame-bad Money.Absent Money.Malformed (hellers (hellersIn f)) 12 f (isMoney f) b long eb nb (sym eg ∙ t)
+
+pub money-reads : (f : List ℕ) (n : ℕ) (g : Bool) → length f ≡ 12 → (n ≡ run isDigit f) × (n ≤ length f) → g ≡ isMoney f → g ≡ true
+    → (length f ≡ 12) × (n ≡ crownDigits f) × (isMoney f ≡ true)
+money-reads f n g long en eg t = (long, en .0, sym eg ∙ t)
+
+-- ---- what a weight weighs
+pub weight-small : (f : List ℕ) → length f ≡ 6 → isWeight f ≡ true → (numberOf (part f 0 2) ≤ 99) × (numberOf (part f 3 6) ≤ 999)
+unfolding numberAfter
+weight-small f long h =
+    let a = both _ (allDigits (part f 3 6)) h in
+    let b = both _ (eqb (getD f 2 0) 46) (a .0) in
+    let d = both (eqb (getD f 0 0) 32 || isDigit (getD f 0 0) && not (eqb (getD f 0 0) 48)) (isDigit (getD f 1 0)) (b .0) in
+    let first : getD f 0 0 ≤ 57 = small (eqb (getD f 0 0) 32) refl (d .0) in
+    let second = digit-bounds (getD f 1 0) (d .1) in
+    let three : length (part f 3 6) ≡ 3 = mid-len 3 6 f (omega arith) in
+    (rw (spelled 6 f long) (omega (arith, getD-drop 1 f 0 0)), omega (arith, number-below 3 (part f 3 6) three (a .1)))
+  where
+    small : (t : Bool) → eqb (getD f 0 0) 32 ≡ t → (t || isDigit (getD f 0 0) && not (eqb (getD f 0 0) 48)) ≡ true → getD f 0 0 ≤ 57
+    small true e g = omega (arith, eqb-true (getD f 0 0) 32 e)
+    small false e g = digit-bounds (getD f 0 0) (both (isDigit (getD f 0 0)) (not (eqb (getD f 0 0) 48)) g .0) .1
+
+-- the same, of what is read
+pub weight-fits : (f : List ℕ) → length f ≡ 6 → isWeight f ≡ true → (numberOfFirst 16 (part f 0 2) ≤ 99) × (numberOfFirst 16 (part f 3 6) ≤ 999)
+weight-fits f long h =
+    let s = weight-small f long h in
+    (omega (arith, few f 0 2 (omega arith)), omega (arith, few f 3 6 (omega arith)))
+
+-- ---- writing
+pub overlay-put : (s t : List ℕ) (a w n : ℕ) → a + w ≤ length s → t ≡ digits (length (take (a + w - a) (drop a s))) n
+    → putMid a (a + w - a) s t ≡ overlay s a (digits w n)
+overlay-put s t a w n h e =
+    let wide : length (take (a + w - a) (drop a s)) ≡ w = mid-len a (a + w) s h ∙ omega arith in
+    let text : t ≡ digits w n = e ∙ ap (λ (k : ℕ). digits k n) wide in
+    put-is a (a + w) s t (omega arith) h ∙ rw (text, length-digits w n)
+
+pub tens-space : (v : ℕ) → v < 10000 → 32 ≡ cond (ltb v 10000) 32 (48 + v / 10000)
+tens-space v h = rw (lt-ltb v 10000 h)
+
+pub tens-digit : (v : ℕ) → 10000 ≤ v → 48 + v / 10000 ≡ cond (ltb v 10000) 32 (48 + v / 10000)
+tens-digit v h = rw (le-ltb v 10000 h)
+
+pub weight-put : (s t : List ℕ) (v x : ℕ) → (length s ≡ 6) × (v < 100000) → t ≡ overlay s 3 (digits 3 v) → x ≡ cond (ltb v 10000) 32 (48 + v / 10000)
+    → set (set (set t 0 x) 1 (48 + v / 1000 % 10)) 2 46 ≡ weightText v
+unfolding weightText digits
+weight-put s t v x pre et ex = rw (et, ex, spelled 6 s (pre .0)) (go (ltb v 10000))
+  where
+    go : (b : Bool) → cond b 32 (48 + v / 10000) ∷ (48 + v / 1000 % 10) ∷ 46 ∷ ((([] ++ (48 + v / 10 / 10 % 10) ∷ []) ++ (48 + v / 10 % 10) ∷ []) ++ (48 + v % 10) ∷ [])
+        ≡ cond b (32 ∷ ([] ++ (48 + v / 1000 % 10) ∷ [])) (([] ++ (48 + v / 1000 / 10 % 10) ∷ []) ++ (48 + v / 1000 % 10) ∷ []) ++ 46 ∷ ((([] ++ (48 + v / 10 / 10 % 10) ∷ []) ++ (48 + v / 10 % 10) ∷ []) ++ (48 + v % 10) ∷ [])
+    go true = refl
+    go false = let e : v / 1000 / 10 % 10 ≡ v / 10000 = omega (arith, pre .1) in rw e
+
+drop-replicate : (k n x : ℕ) → drop k (replicate n x) ≡ replicate (n - k) x
+drop-replicate zero n x = rw (sub-zero n)
+drop-replicate (suc k) zero x = rw (zero-sub (suc k))
+drop-replicate (suc k) (suc n) x =
+    let e : suc n - suc k ≡ n - k = omega arith in
+    rw e (drop-replicate k n x)
+
+-- digits, a dot, two digits and spaces, put into twelve spaces
+module _ (a b : List ℕ) (n : ℕ) (la : length a ≡ n) (lb : length b ≡ 2) (few-crowns : n ≤ 9) where
+  crowns-put : overlay (replicate 12 32) 0 a ≡ a ++ 32 ∷ replicate (11 - n) 32
+  crowns-put =
+      let zero-first : 0 + length a ≡ n = omega arith in
+      let rest : 12 - n ≡ suc (11 - n) = omega arith in
+      rw (zero-first, drop-replicate n 12 32, rest)
+
+  dot-put : set (a ++ 32 ∷ replicate (11 - n) 32) n 46 ≡ (a ++ 46 ∷ []) ++ replicate (11 - n) 32
+  dot-put = set-at a 32 (replicate (11 - n) 32) 46 n la ∙ sym (append-assoc a (46 ∷ []) (replicate (11 - n) 32))
+
+  places-put : overlay ((a ++ 46 ∷ []) ++ replicate (11 - n) 32) (n + 1) b ≡ a ++ 46 ∷ (b ++ replicate (9 - n) 32)
+  places-put =
+      let front : length (a ++ 46 ∷ []) ≡ n + 1 = simp length-append (omega arith) in
+      let twice : drop (n + 1 + length b) ((a ++ 46 ∷ []) ++ replicate (11 - n) 32) ≡ replicate (9 - n) 32 =
+      rw (lb, ← drop-drop 2 (n + 1) ((a ++ 46 ∷ []) ++ replicate (11 - n) 32), drop-at (a ++ 46 ∷ []) (replicate (11 - n) 32) (n + 1) front, drop-replicate 2 (11 - n) 32) (ap (λ (k : ℕ). replicate k 32) (fewer n few-crowns)) in
+      rw (take-at (a ++ 46 ∷ []) (replicate (11 - n) 32) (n + 1) front, twice) (append-assoc a (46 ∷ []) (b ++ replicate (9 - n) 32))
+    where
+      fewer : (n : ℕ) → n ≤ 9 → 11 - n - 2 ≡ 9 - n
+      fewer n h = omega arith
+
+  money-put-at : overlay (set (overlay (replicate 12 32) 0 a) n 46) (n + 1) b ≡ a ++ 46 ∷ (b ++ replicate (9 - n) 32)
+  money-put-at = rw (crowns-put, dot-put) places-put
+
+crowns-few : (v : ℕ) → v < 100000000000 → places (v / 100) ≤ 9
+crowns-few v h = places-at-most 19 8 (v / 100) (omega arith)
+
+pub crowns-nine : (v n : ℕ) → v < 100000000000 → (n ≡ places (v / 100)) × (1 ≤ n) × (n ≤ 20) → n ≤ 9
+crowns-nine v n h en = rw (en .0) (crowns-few v h)
+
+module _ (s t u w : List ℕ) (v n : ℕ) (pre : (length s ≡ 12) × (v < 100000000000)) (en : (n ≡ places (v / 100)) × (1 ≤ n) × (n ≤ 20)) where
+  pub money-put : t ≡ replicate (length s) 32 → u ≡ overlay t 0 (digits n (v / 100)) → w ≡ overlay (set u n 46) (n + 1) (digits 2 v) → w ≡ moneyText v
+  unfolding moneyText
+  money-put et eu ew =
+      rw (ew, eu, et, pre .0, money-put-at (digits n (v / 100)) (digits 2 v) n (length-digits n (v / 100)) (length-digits 2 v) (crowns-nine v n (pre .1) en), en .0)
+
+-- ---- the writers
+module _ (width : ℕ) (has : Bool) (text s : List ℕ) where
+  pub write-size : (length s ≡ width → ⊥) → Written width has text s (answer 236 0) s
+  write-size n = record { answers = rw (ne-eqb (length s) width n); bytes = rw (ne-eqb (length s) width n) }
+
+  pub write-none : length s ≡ width → has ≡ false → Written width has text s (answer 210 0) s
+  write-none e h = record { answers = rw (eq-eqb (length s) width e, h); bytes = rw (eq-eqb (length s) width e, h) }
+
+  pub write-done : (t : List ℕ) → length s ≡ width → has ≡ true → t ≡ text → Written width has text s accepted t
+  write-done t e h g = record { answers = rw (eq-eqb (length s) width e, h); bytes = rw (eq-eqb (length s) width e, h) g }
+
+module _ (s : List ℕ) (m : MoneyReading) (long : length s ≡ 12) where
+  pub money-blank : (t : List ℕ) → m ≡ Money.Absent → t ≡ replicate (length s) 32 → MoneyWritten s m accepted t
+  unfolding hasMoneyText moneyBytes
+  money-blank t e g = rw e (write-done 12 true (replicate 12 32) s t long refl (g ∙ rw long))
+
+  pub money-over : (h : Hellers) → m ≡ Money.Value h → 100000000000 ≤ h .0 → MoneyWritten s m (answer 210 0) s
+  unfolding hasMoneyText moneyBytes
+  money-over h e l = rw e (write-none 12 (ltb (h .0) 100000000000) (moneyText (h .0)) s long (le-ltb (h .0) 100000000000 l))
+
+  pub money-text : (t : List ℕ) (h : Hellers) → m ≡ Money.Value h → h .0 < 100000000000 → t ≡ moneyText (h .0) → MoneyWritten s m accepted t
+  unfolding hasMoneyText moneyBytes
+  money-text t h e l g = rw e (write-done 12 (ltb (h .0) 100000000000) (moneyText (h .0)) s t long (lt-ltb (h .0) 100000000000 l) g)
+
+  pub money-malformed : m ≡ Money.Malformed → MoneyWritten s m (answer 210 0) s
+  unfolding hasMoneyText moneyBytes
+  money-malformed e = rw e (write-none 12 false (replicate 12 32) s long refl)
+
+module _ (s : List ℕ) (m : WeightReading) (long : length s ≡ 6) where
+  pub weight-blank : (t : List ℕ) → m ≡ Weight.Absent → t ≡ replicate (length s) 32 → WeightWritten s m accepted t
+  unfolding hasWeightText weightBytes
+  weight-blank t e g = rw e (write-done 6 true (replicate 6 32) s t long refl (g ∙ rw long))
+
+  pub weight-over : (h : Grams) → m ≡ Weight.Value h → 100000 ≤ h .0 → WeightWritten s m (answer 210 0) s
+  unfolding hasWeightText weightBytes
+  weight-over h e l = rw e (write-none 6 (ltb (h .0) 100000) (weightText (h .0)) s long (le-ltb (h .0) 100000 l))
+
+  pub weight-text : (t : List ℕ) (h : Grams) → m ≡ Weight.Value h → h .0 < 100000 → t ≡ weightText (h .0) → WeightWritten s m accepted t
+  unfolding hasWeightText weightBytes
+  weight-text t h e l g = rw e (write-done 6 (ltb (h .0) 100000) (weightText (h .0)) s t long (lt-ltb (h .0) 100000 l) g)
+
+  pub weight-malformed : m ≡ Weight.Malformed → WeightWritten s m (answer 210 0) s
+  unfolding hasWeightText weightBytes
+  weight-malformed e = rw e (write-none 6 false (replicate 6 32) s long refl)

@@ -1,0 +1,17 @@
+pub mod Frames
+pub mod Bits
+pub mod Ways
+pub mod TextWays
+pub mod AmountWays
+pub mod ServiceWays
+pub mod ByteLaws
+pub mod FrameLaws
+pub mod DateLaws
+pub mod NumberLaws
+pub mod TextLaws
+pub mod MailLaws
+pub mod OtherLaws
+pub mod Readings
+pub mod WeightLaws
+pub mod MoneyLaws
+pub mod ServicesLaws

@@ -1,0 +1,93 @@
+-- The paper's marked examples 9 to 13, computed over the definitions.
+-- Assumes nothing.
+use Prim.Native.Nat.{ℕ, _-_}
+use Prim.Native.String.{String}
+use mathlib.Core.Path.{_≡_, refl}
+use mathlib.Core.List.{List, [], _∷_, _++_}
+use mathlib.Core.Bool.{Bool, true, false, _&&_}
+use lib.Dec.{eqb}
+use lib.ListN.{length, replicate}
+use Rattle.text.specs.Bytes.{every, run}
+use Rattle.text.specs.Numbers.{numberAfter}
+use Rattle.text.specs.Texts.{bytes, allHold}
+use Rattle.fields.specs.declared.DateReading.{DateReading}
+use Rattle.fields.specs.declared.DateReading.the-variants as Date
+use Rattle.fields.specs.declared.WeightReading.{WeightReading}
+use Rattle.fields.specs.declared.WeightReading.the-variants as Weight
+use Rattle.fields.specs.declared.MoneyReading.{MoneyReading}
+use Rattle.fields.specs.declared.MoneyReading.the-variants as Money
+use Rattle.fields.specs.declared.Services.{Services}
+use Rattle.fields.specs.declared.ServicesReading.{ServicesReading}
+use Rattle.fields.specs.declared.ServicesReading.the-variants as Reading
+use Rattle.fields.specs.Frame.{framed}
+use Rattle.fields.specs.Dates.{daysIn, readDate}
+use Rattle.fields.specs.Amounts.{isMoney, readWeight, readMoney}
+use Rattle.fields.specs.Services.{codesFrom, hasCode, noServices, withCode, added, readServices}
+
+-- a text in a field of width w, with spaces behind it
+unfoldable pub inField : ℕ → String → List ℕ
+inField w t = bytes t ++ replicate (w - length (bytes t)) 32
+
+-- ---- what a reading is
+unfoldable pub isHellers : ℕ → MoneyReading → Bool
+isHellers v Money.Absent = false
+isHellers v (Money.Value h) = eqb (h .0) v
+isHellers v Money.Malformed = false
+
+unfoldable pub badMoney : MoneyReading → Bool
+badMoney Money.Absent = false
+badMoney (Money.Value h) = false
+badMoney Money.Malformed = true
+
+unfoldable pub isGrams : ℕ → WeightReading → Bool
+isGrams v Weight.Absent = false
+isGrams v (Weight.Value g) = eqb (g .0) v
+isGrams v Weight.Malformed = false
+
+unfoldable pub badWeight : WeightReading → Bool
+badWeight Weight.Absent = false
+badWeight (Weight.Value g) = false
+badWeight Weight.Malformed = true
+
+-- the set of just these codes
+unfoldable pub isSet : Services → ServicesReading → Bool
+isSet t Reading.Absent = false
+isSet t (Reading.Value s) = eqb (s .low) (t .low) && eqb (s .high) (t .high)
+isSet t Reading.Malformed = false
+
+unfoldable pub badServices : ServicesReading → Bool
+badServices Reading.Absent = false
+badServices (Reading.Value s) = false
+badServices Reading.Malformed = true
+
+unfoldable pub isDate : ℕ → DateReading → Bool
+isDate v (Date.Value d) = eqb d v
+isDate v Date.Malformed = false
+
+unfoldable pub badDate : DateReading → Bool
+badDate (Date.Value d) = false
+badDate Date.Malformed = true
+
+unfoldable pub claims : List Bool
+claims =
+    isHellers 0 (readMoney (inField 12 "0.00"))  -- 9
+    ∷ isHellers 99999999999 (readMoney (inField 12 "999999999.99"))  -- 9
+    ∷ badMoney (readMoney (inField 12 "00.50"))  -- 10
+    ∷ badMoney (readMoney (inField 12 "1.5"))  -- 10
+    ∷ badMoney (readMoney (inField 12 " 1.50"))  -- 10
+    ∷ isGrams 1 (readWeight (bytes " 0.001"))  -- 11
+    ∷ badWeight (readWeight (bytes "00.500"))  -- 11
+    ∷ badWeight (readWeight (bytes "0.500 "))  -- 11
+    ∷ isSet (withCode (withCode noServices 7) 41) (readServices (inField 30 "7+41"))  -- 12
+    ∷ badServices (readServices (inField 30 "7+"))  -- 12
+    ∷ badServices (readServices (inField 30 "7+7"))  -- 12
+    ∷ badServices (readServices (inField 30 "07"))  -- 12
+    ∷ isDate 20240229 (readDate (bytes "20240229"))  -- 13
+    ∷ badDate (readDate (bytes "20230229"))  -- 13
+    ∷ badDate (readDate (bytes "19991231"))  -- 13
+    ∷ badDate (readDate (bytes "21000101"))  -- 13
+    ∷ []
+
+pub shown : allHold claims ≡ true
+unfolding bytes allHold every run numberAfter framed daysIn readDate isMoney codesFrom hasCode withCode added readServices inField isHellers badMoney isGrams badWeight isSet badServices isDate badDate claims
+shown = refl

@@ -1,0 +1,10 @@
+pub mod Frame
+pub mod Dates
+pub mod Texts
+pub mod Numbers
+pub mod Others
+pub mod Amounts
+pub mod Services
+pub mod Scans
+pub mod Calls
+pub mod Examples
