@@ -1,0 +1,56 @@
+-- `record::judged` meets its contract.
+-- Assumes nothing.
+use borrow.Author.Needs.{needs}
+use Rattle.record.proofs.Ways.{record-judged}
+use borrow.Author.Needs.{needs}
+use Rattle.record.proofs.judged.Statement.{statement}
+use Rattle.record.proofs.judged.Tie as tie
+
+read-when-requires : tie.Need-read-when-requires
+read-when-requires c κs = search needs
+
+read-address-requires : tie.Need-read-address-requires
+read-address-requires c κs = search needs
+
+read-contact-requires : tie.Need-read-contact-requires
+read-contact-requires c κs = search needs
+
+read-goods-requires : tie.Need-read-goods-requires
+read-goods-requires c κs = search needs
+
+read-marks-requires : tie.Need-read-marks-requires
+read-marks-requires c κs = search needs
+
+read-set-requires : tie.Need-read-set-requires
+read-set-requires c κs = search needs
+
+read-tail-requires : tie.Need-read-tail-requires
+read-tail-requires c κs = search needs
+
+form-answer-requires : tie.Need-form-answer-requires
+form-answer-requires c κs = search needs
+
+content-answer-requires : tie.Need-content-answer-requires
+content-answer-requires c κs = search needs
+
+first-of-requires : tie.Need-first-of-requires
+first-of-requires c κs = search needs
+
+returns : tie.Need-returns
+returns c = search record-judged
+
+pub judged-spec : {M : Type 1} → statement M
+judged-spec =
+    tie.close
+    (tie.spec
+    read-when-requires
+    read-address-requires
+    read-contact-requires
+    read-goods-requires
+    read-marks-requires
+    read-set-requires
+    read-tail-requires
+    form-answer-requires
+    content-answer-requires
+    first-of-requires
+    returns)

@@ -1,0 +1,4 @@
+pub mod Table
+pub mod Columns
+pub mod Readings
+pub mod Rules
