@@ -1,0 +1,68 @@
+-- `posting::line_answer` meets its contract.
+-- Assumes nothing.
+use borrow.Author.Needs.{needs}
+use Rattle.posting.proofs.Ways.{line-open, line-breaks, line-repeats, line-passes}
+use borrow.Author.Needs.{needs}
+use Rattle.posting.proofs.line_answer.Statement.{statement}
+use Rattle.posting.proofs.line_answer.Tie as tie
+
+mul-at : tie.Need-mul-at
+mul-at c = search needs
+
+add-e : tie.Need-add-e
+add-e c = search needs
+
+shared-slice-read-ended : tie.Need-shared-slice-read-ended
+shared-slice-read-ended c = search needs
+
+add-ended : tie.Need-add-ended
+add-ended c = search needs
+
+shared-slice-read-ended-2 : tie.Need-shared-slice-read-ended-2
+shared-slice-read-ended-2 c = search needs
+
+returns : tie.Need-returns
+returns c = search line-open
+
+sub-check : tie.Need-sub-check
+sub-check c = search needs
+
+part-check-start : tie.Need-part-check-start
+part-check-start c = search needs
+
+part-check-end : tie.Need-part-check-end
+part-check-end c = search needs
+
+check-requires : tie.Need-check-requires
+check-requires c κs = search needs
+
+returns-2 : tie.Need-returns-2
+returns-2 c = search line-breaks
+
+earlier-requires : tie.Need-earlier-requires
+earlier-requires c κs = search needs
+
+returns-3 : tie.Need-returns-3
+returns-3 c = search line-repeats
+
+returns-4 : tie.Need-returns-4
+returns-4 c = search line-passes
+
+pub line-answer-spec : {M : Type 1} → statement M
+line-answer-spec =
+    tie.close
+    (tie.spec
+    mul-at
+    add-e
+    shared-slice-read-ended
+    add-ended
+    shared-slice-read-ended-2
+    returns
+    sub-check
+    part-check-start
+    part-check-end
+    check-requires
+    returns-2
+    earlier-requires
+    returns-3
+    returns-4)

@@ -1,0 +1,39 @@
+-- The line of seven decimal numbers that the checking program prints.
+-- Assumes nothing.
+use Prim.Native.Nat.{ℕ}
+use mathlib.Core.Bool.{Bool, cond}
+use mathlib.Core.Path.{_≡_}
+use mathlib.Core.List.{List, [], _∷_, _++_}
+use lib.ListN.{length}
+use lib.Dec.{leb, ltb}
+use Rattle.text.specs.declared.Answer.{Answer}
+use Rattle.text.specs.Answers.{answer, accepted}
+use Rattle.text.specs.Lists.{overlay}
+use Rattle.text.specs.Numbers.{decimal}
+use Rattle.posting.specs.declared.FileAnswer.{FileAnswer}
+use Rattle.posting.specs.declared.Reported.{Reported}
+use Rattle.posting.specs.File.{fileAnswer, refused}
+
+-- code, record, place, live, cancelled, cash on delivery in haléře, price specified in haléře
+abbrev pub numbersOf : FileAnswer → List ℕ
+numbersOf a =
+    a .code ∷ a .number ∷ a .place ∷ a .totals .live ∷ a .totals .cancelled ∷ a .totals .cash .0 ∷ a .totals .price .0 ∷ []
+
+-- each number in decimal with the byte behind it: a space, and a line feed behind the last
+unfoldable pub line : List ℕ → List ℕ
+line [] = []
+line (n ∷ []) = decimal n ++ 10 ∷ []
+line (n ∷ m ∷ ns) = decimal n ++ 32 ∷ line (m ∷ ns)
+
+abbrev pub reportOf : FileAnswer → List ℕ
+reportOf a = line (numbersOf a)
+
+-- the line in front of a lent buffer and its length; 236, place 0, exactly if the buffer is shorter than the line, and then it stays
+pub record Report (a : FileAnswer) (before : List ℕ) (r : Reported) (after : List ℕ) : Type 0 where
+  pub answers : r .answer ≡ cond (leb (length (reportOf a)) (length before)) accepted (answer 236 0)
+  pub counts : r .length ≡ cond (leb (length (reportOf a)) (length before)) (length (reportOf a)) 0
+  pub bytes : after ≡ cond (leb (length (reportOf a)) (length before)) (overlay before 0 (reportOf a)) before
+
+-- the checking program takes at most 64,160 bytes
+unfoldable pub inputAnswer : List ℕ → FileAnswer
+inputAnswer input = cond (ltb 64160 (length input)) (refused 213 0 0) (fileAnswer input)

@@ -1,0 +1,178 @@
+// A whole K file: the first break of a rule, or the totals; and the line that reports it.
+ghost use mathlib.Core.Path.{_≡_};
+ghost use Prim.Native.Nat.{_+_, _*_, _≤_, _<_};
+ghost use lib.ListN.{length};
+ghost use Rattle.text.specs.Promises.{Gives};
+ghost use Rattle.posting.specs.File.{repeats, lineAnswer, noTotals, amountIn, withRecord, refused, fileAnswer};
+ghost use Rattle.posting.specs.Bounds.{Small};
+use fields::Hellers;
+use fields::MoneyReading;
+use fields::StatusReading;
+use fields::Sum;
+use text::Answer;
+
+// Live and cancelled consignments, and what the live ones bring.
+pub struct Totals {
+    pub live: u64,
+    pub cancelled: u64,
+    pub cash: Hellers,
+    pub price: Hellers,
+}
+
+// Code, number of the record and place of the first break, or 0, 0, 0 and the totals.
+pub struct FileAnswer {
+    pub code: u32,
+    pub number: u32,
+    pub place: u32,
+    pub totals: Totals,
+}
+
+// The answer to a request for a line, and how many bytes the line has.
+pub struct Reported {
+    pub answer: Answer,
+    pub length: usize,
+}
+
+fn no_totals() -> Totals
+    ensures { λ r. ⌜ r ≡ noTotals ⌝ }
+{
+    Totals {
+        live: 0,
+        cancelled: 0,
+        cash: Hellers(0),
+        price: Hellers(0),
+    }
+}
+
+fn refused(code: u32, number: u32, place: u32) -> FileAnswer
+    ensures { λ r. ⌜ r ≡ refused code number place ⌝ }
+{
+    let totals = no_totals();
+    FileAnswer {
+        code,
+        number,
+        place,
+        totals,
+    }
+}
+
+// Whether one of the records before record i has its identifier.
+fn earlier(file: &[u8], i: usize) -> bool
+    requires { ⌜ (i < 1000) × (i * 401 + 401 ≤ length (now file)) ⌝ }
+    ensures { λ r. ⌜ r ≡ repeats (now (file .entry)) i i ⌝ }
+{
+    let at = i * 401;
+    let id = &file[at..at + 13];
+    let mut j = i;
+    while 0 < j {
+        j -= 1;
+        let b = j * 401;
+        if ident::same(&file[b..b + 13], id) {
+            return true;
+        }
+    }
+    false
+}
+
+// What record i breaks, its line end first.
+fn line_answer(file: &[u8], i: usize) -> Answer
+    requires { ⌜ (i < 1000) × (i * 401 + 401 ≤ length (now file)) ⌝ }
+    ensures { λ r. ⌜ r ≡ lineAnswer (now (file .entry)) i ⌝ }
+{
+    let at = i * 401;
+    let e = at + 399;
+    let ended = (file[e] == 13) & (file[at + 400] == 10);
+    if !ended {
+        return Answer {
+            code: 212,
+            place: 0,
+        };
+    }
+    let answer = record::check(&file[at..e]);
+    if answer.code != 0 {
+        return answer;
+    }
+    if earlier(file, i) {
+        return Answer { code: 2, place: 1 };
+    }
+    Answer { code: 0, place: 0 }
+}
+
+// The amount that was read; 0 where there is none.
+fn amount_in(m: MoneyReading) -> Hellers
+    ensures { λ r. ⌜ r .0 ≡ amountIn m ⌝ }
+{
+    match m {
+        MoneyReading::Absent => Hellers(0),
+        MoneyReading::Value(h) => h,
+        MoneyReading::Malformed => Hellers(0),
+    }
+}
+
+// The sum of two amounts that together stay small.
+fn sum(a: Hellers, b: Hellers) -> Hellers
+    requires { ⌜ a .0 + b .0 < 1000000000000000 ⌝ }
+    ensures { λ r. ⌜ r .0 ≡ a .0 + b .0 ⌝ }
+{
+    match a.plus(b) {
+        Sum::Total(c) => c,
+        Sum::TooLarge => a,
+    }
+}
+
+// The totals with a record of 399 bytes more.
+fn with_record(t: Totals, rec: &[u8]) -> Totals
+    requires { ⌜ Small t ⌝ }
+    ensures { λ r. ⌜ r ≡ withRecord t (now (rec .entry)) ⌝ }
+{
+    let cash = t.cash;
+    let price = t.price;
+    match fields::read_status(layout::field(rec, 19)) {
+        StatusReading::Live => {
+            let d = amount_in(fields::read_money(layout::field(rec, 16)));
+            let p = amount_in(fields::read_money(layout::field(rec, 17)));
+            Totals {
+                live: t.live + 1,
+                cancelled: t.cancelled,
+                cash: sum(cash, d),
+                price: sum(price, p),
+            }
+        }
+        StatusReading::Cancelled => Totals {
+            live: t.live,
+            cancelled: t.cancelled + 1,
+            cash,
+            price,
+        },
+        StatusReading::Malformed => t,
+    }
+}
+
+pub fn check(file: &[u8]) -> FileAnswer
+    ensures { λ r. ⌜ Gives (fileAnswer (now (file .entry))) r ⌝ }
+{
+    if file.len() % 401 != 0 {
+        return refused(211, 0, 0);
+    }
+    let n = file.len() / 401;
+    if n > 999 {
+        return refused(213, 0, 0);
+    }
+    let mut totals = no_totals();
+    let mut i = 0;
+    while i < n {
+        let a = line_answer(file, i);
+        if a.code != 0 {
+            return refused(a.code, i as u32 + 1, a.place);
+        }
+        let at = i * 401;
+        totals = with_record(totals, &file[at..at + 399]);
+        i += 1;
+    }
+    FileAnswer {
+        code: 0,
+        number: 0,
+        place: 0,
+        totals,
+    }
+}
