@@ -1,14 +1,14 @@
--- `run_identifiers::answer_all` is safe and ends: the measure is the turns that are left.
+-- `judging::answer_rest` is safe and ends: the measure is the turns that are left.
 -- Assumes nothing.
 use native.Mathlib.Omega.{arith}
-use Rattle.run_identifiers.proofs.answer_all.Statement.{statement}
-use Rattle.run_identifiers.proofs.answer_all.Tie as tie
+use Rattle.judging.proofs.answer_rest.Statement.{statement}
+use Rattle.judging.proofs.answer_rest.Tie as tie
 
 abbrev Inv-loop : tie.InvT-loop
-Inv-loop fd turns₀ turns = Unit {0}
+Inv-loop kind fd path turns₀ turns = Unit {0}
 
 abbrev μ-loop : tie.MeasureT-loop
-μ-loop fd turns₀ turns = turns
+μ-loop kind fd path turns₀ turns = turns
 
 loop-holds : tie.Need-loop-holds Inv-loop μ-loop
 loop-holds c = tt
@@ -31,5 +31,5 @@ loop-again c = tt
 returns-2 : tie.Need-returns-2 Inv-loop μ-loop
 returns-2 c = tt
 
-pub answer-all-spec : {M : Type 1} → statement M
-answer-all-spec = tie.close (tie.spec Inv-loop μ-loop loop-holds answer-next-requires returns sub-turns loop-less loop-again returns-2)
+pub answer-rest-spec : {M : Type 1} → statement M
+answer-rest-spec = tie.close (tie.spec Inv-loop μ-loop loop-holds answer-next-requires returns sub-turns loop-less loop-again returns-2)
