@@ -1,1 +1,2 @@
 pub mod ActionWays
+pub mod JournalWays

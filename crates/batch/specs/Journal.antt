@@ -22,12 +22,16 @@ head kind = cond (eqb kind 2) (17 ∷ 0 ∷ kind ∷ 0 ∷ []) (147 ∷ 1 ∷ ki
 abbrev pub entry : ℕ → List ℕ → List ℕ
 entry kind body = head kind ++ body
 
+-- these four bytes stand at `at`, and as many as `size` end by `end`
+abbrev pub headStands : List ℕ → ℕ → ℕ → ℕ → ℕ → ℕ → ℕ → Bool
+headStands journal end at size low high kind =
+    cond (leb size (end - at))
+    (eqb (getD journal at 0) low && eqb (getD journal (at + 1) 0) high && eqb (getD journal (at + 2) 0) kind && eqb (getD journal (at + 3) 0) 0)
+    false
+
 -- an entry of this kind starts at `at` and ends by `end`
 abbrev pub startsEntry : List ℕ → ℕ → ℕ → ℕ → Bool
-startsEntry journal end at kind =
-    leb (entryLength kind) (end - at)
-    && eqb (getD journal at 0) (getD (head kind) 0 0) && eqb (getD journal (at + 1) 0) (getD (head kind) 1 0)
-    && eqb (getD journal (at + 2) 0) kind && eqb (getD journal (at + 3) 0) 0
+startsEntry journal end at kind = headStands journal end at (entryLength kind) (getD (head kind) 0 0) (getD (head kind) 1 0) kind
 
 -- the kind of the entry there; 0 where there is none of the house form
 unfoldable pub kindAt : List ℕ → ℕ → ℕ → ℕ

@@ -1,3 +1,4 @@
 pub mod Actions
 pub mod Journal
+pub mod Duties
 pub mod Batch

@@ -1,15 +1,10 @@
 // The open batch: a lent file buffer, a lent journal and counts by value; additions, amendments, cancellations and undo.
 ghost use mathlib.Core.Path.{_≡_};
-ghost use mathlib.Core.Bool.{true, false};
-ghost use mathlib.Core.List.{_++_};
 ghost use Prim.Native.Nat.{_+_, _*_, _≤_, _<_};
-ghost use lib.ListN.{length, drop};
-ghost use Rattle.text.specs.Bytes.{every};
-ghost use Rattle.text.specs.Lists.{overlay};
-ghost use Rattle.posting.specs.File.{totalsOver};
-ghost use Rattle.batch.specs.Actions.{seek, liveAnswer, addAnswer, amendAnswer, cancelAnswer, lineOf, withLine, withCancelled, actionAnswer, actionFile};
-ghost use Rattle.batch.specs.Journal.{bodyLength, entryLength, entry, kindAt, stepOf, rebuilt, zeros};
-ghost use Rattle.batch.specs.Batch.{isZero, sameTotals, rightLengths};
+ghost use lib.ListN.{length};
+ghost use Rattle.batch.specs.Actions.{seek, liveAnswer, addAnswer, amendAnswer, cancelAnswer, lineOf, withLine, withCancelled, actionAnswer, actionFile, actionHeld};
+ghost use Rattle.batch.specs.Journal.{bodyLength, headStands, kindAt};
+ghost use Rattle.batch.specs.Duties.{Acceptable, Stepping, Stepped};
 use fields::Hellers;
 use posting::Totals;
 use text::Answer;
@@ -164,4 +159,110 @@ fn put_cancelled(file: &mut [u8], k: usize)
     let a = k * 401 + 340;
     file[a] = b'0';
     file[a + 1] = b' ';
+}
+
+// An acceptable action, done.
+fn act(file: &mut [u8], held: usize, kind: u8, body: &[u8])
+    requires { ⌜ Acceptable (now file) held kind (now body) ⌝ }
+    ensures { λ _. ⌜ now (file .exit) ≡ actionFile (now (file .entry)) held kind (now (body .entry)) ⌝ }
+{
+    if kind == 1 {
+        put_line(file, held, body);
+        return;
+    }
+    if kind == 3 {
+        let found = seek(file, layout::field(body, 1), held);
+        put_line(file, found - 1, body);
+        return;
+    }
+    let found = seek(file, body, held);
+    put_cancelled(file, found - 1);
+}
+
+// ---- the journal
+
+// Whether an entry of this kind starts at a place and ends by `end`: its length in two bytes, its kind in two.
+fn starts_entry(
+    journal: &[u8],
+    end: usize,
+    at: usize,
+    size: usize,
+    low: u8,
+    high: u8,
+    kind: u8,
+) -> bool
+    requires { ⌜ (at ≤ end) × (end ≤ length (now journal)) × (4 ≤ size) ⌝ }
+    ensures { λ r. ⌜ r ≡ headStands (now (journal .entry)) end at size low high kind ⌝ }
+{
+    if end - at < size {
+        return false;
+    }
+    (journal[at] == low)
+        & (journal[at + 1] == high)
+        & (journal[at + 2] == kind)
+        & (journal[at + 3] == 0)
+}
+
+// The kind of the entry at a place; 0 where there is none of the house form.
+fn kind_at(journal: &[u8], end: usize, at: usize) -> u8
+    requires { ⌜ (at ≤ end) × (end ≤ length (now journal)) ⌝ }
+    ensures { λ r. ⌜ r ≡ kindAt (now (journal .entry)) end at ⌝ }
+{
+    if starts_entry(journal, end, at, 403, 147, 1, 1) {
+        return 1;
+    }
+    if starts_entry(journal, end, at, 17, 17, 0, 2) {
+        return 2;
+    }
+    if starts_entry(journal, end, at, 403, 147, 1, 3) {
+        return 3;
+    }
+    0
+}
+
+fn body_length(kind: u8) -> usize
+    ensures { λ r. ⌜ (r ≡ bodyLength kind) × (13 ≤ r) × (r ≤ 399) ⌝ }
+{
+    if kind == 2 { 13 } else { 399 }
+}
+
+// Applies the entry at `used`.
+fn step(file: &mut [u8], journal: &[u8], end: usize, held: usize, used: usize) -> Walk
+    requires { ⌜ Stepping (now file) (now journal) end held used ⌝ }
+    ensures { λ r. ⌜ Stepped (now (file .entry)) (now (journal .entry)) end held used r (now (file .exit)) ⌝ }
+{
+    let kind = kind_at(journal, end, used);
+    if kind == 0 {
+        return Walk {
+            good: false,
+            held,
+            used,
+            last: used,
+        };
+    }
+    let a = used + 4;
+    let e = a + body_length(kind);
+    let answer = action_answer(file, held, kind, &journal[a..e]);
+    if answer.code != 0 {
+        return Walk {
+            good: false,
+            held,
+            used,
+            last: used,
+        };
+    }
+    act(file, held, kind, &journal[a..e]);
+    Walk {
+        good: true,
+        held: held_after(held, kind),
+        used: e,
+        last: used,
+    }
+}
+
+fn held_after(held: usize, kind: u8) -> usize
+    requires { ⌜ held ≤ 999 ⌝ }
+    ensures { λ r. ⌜ r ≡ actionHeld held kind ⌝ }
+{
+    if kind == 1 { held + 1 } else { held }
 }
