@@ -1,2 +1,5 @@
 pub mod Amounts
 pub mod Ways
+pub mod Lines
+pub mod FirstBreak
+pub mod RecordList
