@@ -31,13 +31,16 @@ pub record Repeated (file : List ℕ) (i n : ℕ) : Type 0 where
   pub same : idAt file earlier ≡ idAt file i
 
 -- ---- the tests decide them
+clash : {b : Bool} → b ≡ true → b ≡ false → ⊥
+clash t f = let z : _≡_ {A = ℕ} 0 1 = cc in omega arith
+
 both : (a b : ℕ) (x y : ℕ) → (eqb a x && eqb b y ≡ true) ↔ ((a ≡ x) × (b ≡ y))
 both a b x y = (go (eqb a x) refl (eqb b y) refl, λ p. rw (eq-eqb a x (p .0), eq-eqb b y (p .1)))
   where
     go : (s : Bool) → eqb a x ≡ s → (t : Bool) → eqb b y ≡ t → s && t ≡ true → (a ≡ x) × (b ≡ y)
     go true e true f h = (eqb-true a x e, eqb-true b y f)
-    go true e false f h = absurd (let z : _≡_ {A = ℕ} 0 1 = cc in omega arith)
-    go false e t f h = absurd (let z : _≡_ {A = ℕ} 0 1 = cc in omega arith)
+    go true e false f h = absurd (clash h refl)
+    go false e t f h = absurd (clash h refl)
 
 pub ended-exactly : (file : List ℕ) (i : ℕ) → (lineEnds file i ≡ true) ↔ Ended file i
 ended-exactly file i =
@@ -51,14 +54,13 @@ not-last file i n e r = go (eqb (r .earlier) n) refl
     go : (t : Bool) → eqb (r .earlier) n ≡ t → Repeated file i n
     go true q =
         let here : idAt file n ≡ idAt file i = rw (eqb-true (r .earlier) n q) at (r .same) in
-        let yes = same-exactly (idAt file n) (idAt file i) .1 here in
-        absurd (let z : _≡_ {A = ℕ} 0 1 = cc in omega arith)
+        absurd (clash (same-exactly (idAt file n) (idAt file i) .1 here) e)
     go false q = let no = eqb-false (r .earlier) n q in record { earlier = r .earlier; before = omega (arith, r .before); same = r .same }
 
 -- some j < n has the identifier of record i
 pub repeats-exactly : (file : List ℕ) (i n : ℕ) → (repeats file i n ≡ true) ↔ Repeated file i n
 unfolding repeats
-repeats-exactly file i zero = (λ t. absurd (let z : _≡_ {A = ℕ} 0 1 = cc in omega arith), λ r. absurd (omega (arith, r .before)))
+repeats-exactly file i zero = (λ t. absurd (clash t refl), λ r. absurd (omega (arith, r .before)))
 repeats-exactly file i (suc n) = go (sameBytes (idAt file n) (idAt file i)) refl (repeats-exactly file i n)
   where
     go : (b : Bool) → sameBytes (idAt file n) (idAt file i) ≡ b → (repeats file i n ≡ true) ↔ Repeated file i n → (b || repeats file i n ≡ true) ↔ Repeated file i (suc n)
@@ -75,9 +77,6 @@ pub data LineOutcome (file : List ℕ) (i : ℕ) (a : Answer) : Type 0 where
   repeats-earlier : Ended file i → recordAnswer false (recordAt file i) .code ≡ 0 → Repeated file i i → a ≡ answer 2 1 → LineOutcome file i a
   right : Ended file i → recordAnswer false (recordAt file i) .code ≡ 0 → (Repeated file i i → ⊥) → a ≡ accepted → LineOutcome file i a
 
-clash : {b : Bool} → b ≡ true → b ≡ false → ⊥
-clash t f = let z : _≡_ {A = ℕ} 0 1 = cc in omega arith
-
 pub line-outcome : (file : List ℕ) (i : ℕ) → LineOutcome file i (lineAnswer file i)
 unfolding lineAnswer orElse
 line-outcome file i = go (lineEnds file i) refl (eqb (recordAnswer false (recordAt file i) .code) 0) refl (repeats file i i) refl
@@ -88,3 +87,24 @@ line-outcome file i = go (lineEnds file i) refl (eqb (recordAnswer false (record
     go true e false f u g = breaks-table (ended-exactly file i .0 e) (eqb-false _ 0 f) refl
     go true e true f true g = repeats-earlier (ended-exactly file i .0 e) (eqb-true _ 0 f) (repeats-exactly file i i .0 g) refl
     go true e true f false g = right (ended-exactly file i .0 e) (eqb-true _ 0 f) (λ x. clash (repeats-exactly file i i .1 x) g) refl
+
+-- ---- code 0
+-- record i keeps every rule
+pub record RightLine (file : List ℕ) (i : ℕ) : Type 0 where
+  pub ended : Ended file i
+  pub table : recordAnswer false (recordAt file i) .code ≡ 0
+  pub fresh : (j : ℕ) → j < i → idAt file j ≡ idAt file i → ⊥
+
+pub line-right-exactly : (file : List ℕ) (i : ℕ) → (lineAnswer file i .code ≡ 0) ↔ RightLine file i
+line-right-exactly file i = go (line-outcome file i)
+  where
+    not-coded : {a : Answer} {c p : ℕ} → a ≡ answer c p → (c ≡ 0 → ⊥) → a .code ≡ 0 → ⊥
+    not-coded e n z = n (sym (ap (λ (x : Answer). x .code) e) ∙ z)
+    go : {a : Answer} → LineOutcome file i a → (a .code ≡ 0) ↔ RightLine file i
+    go (ends-wrong n e) = (λ z. absurd (not-coded e (λ q. omega arith) z), λ r. absurd (n (r .ended)))
+    go (breaks-table d n e) = (λ z. absurd (n (rw e at z)), λ r. absurd (n (r .table)))
+    go (repeats-earlier d t r e) = (λ z. absurd (not-coded e (λ q. omega arith) z), λ x. absurd (x .fresh (r .earlier) (r .before) (r .same)))
+    go (right d t n e) = (
+      λ z. record { ended = d; table = t; fresh = λ j h q. n (record { earlier = j; before = h; same = q }) },
+      λ r. ap (λ (x : Answer). x .code) e,
+    )
