@@ -75,6 +75,7 @@ accepted-exactly file = go (file-outcome file)
   where
     coded : {a : FileAnswer} {c n p : ℕ} → a ≡ refused c n p → (c ≡ 0 → ⊥) → a .code ≡ 0 → ⊥
     coded e n z = n (sym (ap (λ (x : FileAnswer). x .code) e) ∙ z)
+
     go : {a : FileAnswer} → FileOutcome file a → (a .code ≡ 0) ↔ AllRight file
     go (no-multiple n e) = (λ z. absurd (coded e (λ q. omega arith) z), λ r. absurd (n (r .multiple)))
     go (too-many m l e) = (λ z. absurd (coded e (λ q. omega arith) z), λ r. absurd (omega (arith, r .few)))

@@ -100,6 +100,7 @@ line-right-exactly file i = go (line-outcome file i)
   where
     not-coded : {a : Answer} {c p : ℕ} → a ≡ answer c p → (c ≡ 0 → ⊥) → a .code ≡ 0 → ⊥
     not-coded e n z = n (sym (ap (λ (x : Answer). x .code) e) ∙ z)
+
     go : {a : Answer} → LineOutcome file i a → (a .code ≡ 0) ↔ RightLine file i
     go (ends-wrong n e) = (λ z. absurd (not-coded e (λ q. omega arith) z), λ r. absurd (n (r .ended)))
     go (breaks-table d n e) = (λ z. absurd (n (rw e at z)), λ r. absurd (n (r .table)))
