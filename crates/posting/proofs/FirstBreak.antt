@@ -5,6 +5,7 @@ use mathlib.Core.Path.{_≡_, refl, sym, ap, _∙_}
 use mathlib.Core.Bool.{Bool, true, false, cond}
 use mathlib.Core.List.{List, [], _∷_}
 use mathlib.Core.Logic.{_↔_}
+use native.Mathlib.Numerals.{add-one}
 use native.Mathlib.Omega.{arith}
 use borrow.Author.Tests.{eqb-true, eqb-false, leb-true, leb-false}
 use lib.Dec.{eqb, leb}
@@ -12,6 +13,7 @@ use lib.ListN.{length}
 use Rattle.text.specs.declared.Answer.{Answer}
 use Rattle.posting.specs.declared.FileAnswer.{FileAnswer}
 use Rattle.posting.specs.File.{lineAnswer, totalsOver, refused, passed, breakFrom, recordsIn, fileAnswer}
+use Rattle.posting.proofs.Ways.{Unbroken, unbroken-start, file-odd, file-long, file-breaks, file-on, file-passes}
 use Rattle.posting.proofs.Lines.{RightLine, line-right-exactly}
 
 -- the records from a up to b, without b, break no rule
@@ -63,6 +65,21 @@ file-outcome file = go (eqb (length file % 401) 0) refl (leb (recordsIn file) 99
     go true e false f b = too-many (eqb-true _ 0 e) (leb-false _ 999 f) refl
     go true e true f (none r g) = no-break (eqb-true _ 0 e) (leb-true _ 999 f) (λ i h. r i (omega arith) (omega arith)) g
     go true e true f (first k l h r x g) = first-break (eqb-true _ 0 e) (leb-true _ 999 f) k (omega arith) (λ j q. r j (omega arith) q) x g
+
+-- ---- and no other answer has such an outcome
+unbroken-to : (file : List ℕ) → length file % 401 ≡ 0 → recordsIn file ≤ 999 → (k : ℕ) → k ≤ recordsIn file → ((j : ℕ) → j < k → lineAnswer file j .code ≡ 0) → Unbroken file k
+unbroken-to file m l zero h r = unbroken-start file
+unbroken-to file m l (suc k) h r =
+    rw add-one at (file-on file m l k (omega arith) (unbroken-to file m l k (omega arith) (λ j q. r j (omega arith))) (lineAnswer file k) refl (r k (omega arith)))
+
+pub outcome-exactly : (file : List ℕ) (a : FileAnswer) → FileOutcome file a ↔ (a ≡ fileAnswer file)
+outcome-exactly file a = (only, λ e. rw e (file-outcome file))
+  where
+    only : FileOutcome file a → a ≡ fileAnswer file
+    only (no-multiple n e) = file-odd file a n e
+    only (too-many m h e) = file-long file a m h e
+    only (first-break m l i h b x e) = file-breaks file m l i h (unbroken-to file m l i (omega arith) b) (lineAnswer file i) refl a x e
+    only (no-break m l b e) = e ∙ file-passes file m l (recordsIn file) _ (omega arith) (omega arith) (unbroken-to file m l (recordsIn file) (omega arith) b) refl
 
 -- ---- code 0 exactly if all rules are kept
 pub record AllRight (file : List ℕ) : Type 0 where

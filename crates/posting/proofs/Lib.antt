@@ -3,3 +3,4 @@ pub mod Ways
 pub mod Lines
 pub mod FirstBreak
 pub mod RecordList
+pub mod Codes

@@ -31,7 +31,7 @@ pub record Repeated (file : List ℕ) (i n : ℕ) : Type 0 where
   pub same : idAt file earlier ≡ idAt file i
 
 -- ---- the tests decide them
-clash : {b : Bool} → b ≡ true → b ≡ false → ⊥
+pub clash : {b : Bool} → b ≡ true → b ≡ false → ⊥
 clash t f = let z : _≡_ {A = ℕ} 0 1 = cc in omega arith
 
 both : (a b : ℕ) (x y : ℕ) → (eqb a x && eqb b y ≡ true) ↔ ((a ≡ x) × (b ≡ y))

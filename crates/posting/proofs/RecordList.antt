@@ -9,7 +9,7 @@ use native.Mathlib.Omega.{arith}
 use borrow.Author.Tests.{eqb-true, eqb-false}
 use lib.Dec.{eqb}
 use lib.ListN.{length, getD, take, drop, length-append, length-drop, List·getD-append}
-use lib.Seq.{take-add, take-all, drop-drop, drop-cons, getD-at, length-take-le}
+use lib.Seq.{take-add, take-all, take-take, drop-drop, drop-cons, getD-at, length-take-le}
 use Rattle.layout.specs.Widths.{sum, joined}
 use Rattle.layout.specs.Layout.{fieldOf}
 use Rattle.fields.specs.declared.StatusReading.{StatusReading}
@@ -17,7 +17,7 @@ use Rattle.fields.specs.declared.StatusReading.the-variants as Status
 use Rattle.fields.specs.Amounts.{readMoney}
 use Rattle.fields.specs.Others.{readStatus}
 use Rattle.posting.specs.declared.Totals.{Totals}
-use Rattle.posting.specs.File.{recordAt, totals, amountIn, withStatus, withRecord, totalsOver, recordsIn}
+use Rattle.posting.specs.File.{recordAt, idAt, totals, amountIn, withStatus, withRecord, totalsOver, recordsIn}
 
 -- ---- the first n of a row: f 0, f 1, up to f (n - 1)
 unfoldable pub upTo : {A : Type 0} → (ℕ → A) → ℕ → List A
@@ -73,6 +73,11 @@ module _ (file : List ℕ) (i : ℕ) (h : i * 401 + 401 ≤ length file) where
       let e : i * 401 + 399 + 1 ≡ i * 401 + 400 = omega arith in
       let last : take 2 (drop (i * 401 + 399) file) ≡ getD file (i * 401 + 399) 0 ∷ getD file (i * 401 + 400) 0 ∷ [] = rw e at (two file (i * 401 + 399) (omega arith)) in
       take-add 399 2 (drop (i * 401) file) ∙ rw (drop-drop, last)
+
+  -- the identifier of record i is its field 1
+  pub id-is : idAt file i ≡ fieldOf (recordAt file i) 1
+  unfolding fieldOf
+  id-is = rw (record-wide, take-take 13 399 (drop (i * 401) file) (omega arith))
 
 -- n lines of 401 bytes
 pub record Tiled (file : List ℕ) (n : ℕ) : Type 0 where
