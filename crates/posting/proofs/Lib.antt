@@ -4,3 +4,4 @@ pub mod Lines
 pub mod FirstBreak
 pub mod RecordList
 pub mod Codes
+pub mod GoodFile

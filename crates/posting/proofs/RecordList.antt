@@ -129,7 +129,7 @@ priceIn rec = amountIn (readMoney (fieldOf rec 17))
 abbrev pub totalsOf : List (List ℕ) → Totals
 totalsOf recs = totals (length (live recs)) (length (cancelled recs)) (sum (map cashIn (live recs))) (sum (map priceIn (live recs)))
 
-kept-last : {A : Type 0} (p : A → Bool) (xs : List A) (x : A) → kept p (xs ++ x ∷ []) ≡ kept p xs ++ cond (p x) (x ∷ []) []
+pub kept-last : {A : Type 0} (p : A → Bool) (xs : List A) (x : A) → kept p (xs ++ x ∷ []) ≡ kept p xs ++ cond (p x) (x ∷ []) []
 unfolding kept
 kept-last p [] x = refl
 kept-last p (y ∷ xs) x = go (p y) (kept-last p xs x)
