@@ -1,6 +1,6 @@
 -- 212 and 2 are codes of the file alone: the record's table never gives them. So they are met exactly when the paper says.
 -- Assumes nothing.
-use Prim.Native.Nat.{ℕ, _<_}
+use Prim.Native.Nat.{ℕ}
 use mathlib.Core.Path.{_≡_, refl, sym, ap, _∙_}
 use mathlib.Core.Bool.{Bool, true, false, cond}
 use mathlib.Core.List.{List, [], _∷_, _++_, map}
@@ -10,11 +10,10 @@ use borrow.Author.Tests.{eqb-true, eqb-false, eq-eqb, ne-eqb}
 use lib.Dec.{eqb}
 use lib.ListN.{length}
 use Rattle.text.specs.declared.Answer.{Answer}
-use Rattle.text.specs.Answers.{answer, accepted}
 use Rattle.record.specs.Table.{Rule}
 use Rattle.record.specs.Rules.{table, recordAnswer}
 use Rattle.record.proofs.Order.{Outcome, good, bad, record-outcome, codes-in-order}
-use Rattle.posting.specs.File.{recordAt, idAt, lineAnswer}
+use Rattle.posting.specs.File.{recordAt, lineAnswer}
 use Rattle.posting.proofs.Lines.{Ended, Repeated, LineOutcome, ends-wrong, breaks-table, repeats-earlier, right, line-outcome, clash}
 
 -- c is not in the list

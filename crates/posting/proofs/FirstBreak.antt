@@ -1,16 +1,15 @@
 -- The answer to a whole file, in the paper's words: 211, then 213, then the first record that breaks a rule; otherwise 0 and the totals.
 -- Assumes nothing.
-use Prim.Native.Nat.{ℕ, zero, suc, _+_, _*_, _/_, _%_, _≤_, _<_}
+use Prim.Native.Nat.{ℕ, zero, suc, _+_, _%_, _≤_, _<_}
 use mathlib.Core.Path.{_≡_, refl, sym, ap, _∙_}
 use mathlib.Core.Bool.{Bool, true, false, cond}
-use mathlib.Core.List.{List, [], _∷_}
+use mathlib.Core.List.{List}
 use mathlib.Core.Logic.{_↔_}
 use native.Mathlib.Numerals.{add-one}
 use native.Mathlib.Omega.{arith}
 use borrow.Author.Tests.{eqb-true, eqb-false, leb-true, leb-false}
 use lib.Dec.{eqb, leb}
 use lib.ListN.{length}
-use Rattle.text.specs.declared.Answer.{Answer}
 use Rattle.posting.specs.declared.FileAnswer.{FileAnswer}
 use Rattle.posting.specs.File.{lineAnswer, totalsOver, refused, passed, breakFrom, recordsIn, fileAnswer}
 use Rattle.posting.proofs.Ways.{Unbroken, unbroken-start, file-odd, file-long, file-breaks, file-on, file-passes}

@@ -1,27 +1,26 @@
 -- A file that is accepted: its records, each with its line end, are the file; each record keeps the table; every record is counted as live or as cancelled,
 -- its amounts are read, and the answer has the totals over them.
 -- Assumes nothing.
-use Prim.Native.Nat.{ℕ, zero, suc, _+_, _*_, _/_, _%_, _≤_, _<_}
+use Prim.Native.Nat.{ℕ, zero, suc, _+_, _*_, _<_}
 use mathlib.Core.Path.{_≡_, refl, sym, ap, _∙_}
-use mathlib.Core.Bool.{Bool, true, false, cond, _||_}
+use mathlib.Core.Bool.{Bool, true, false, cond}
 use mathlib.Core.List.{List, [], _∷_, _++_, map}
 use native.Mathlib.Omega.{arith}
 use lib.ListN.{length, getD, length-append}
 use Rattle.layout.specs.Widths.{joined}
 use Rattle.layout.specs.Layout.{fieldOf}
-use Rattle.fields.specs.declared.MoneyReading.{MoneyReading}
 use Rattle.fields.specs.declared.MoneyReading.the-variants as Money
 use Rattle.fields.specs.declared.StatusReading.{StatusReading}
 use Rattle.fields.specs.declared.StatusReading.the-variants as Status
 use Rattle.fields.specs.Amounts.{readMoney}
 use Rattle.fields.specs.Others.{readStatus}
-use Rattle.record.specs.Table.{Case, Rule, placesFrom, anyCase, broken}
+use Rattle.record.specs.Table.{Rule, placesFrom, anyCase, broken}
 use Rattle.record.specs.Readings.{whenOf, addressOf, contactOf, goodsOf, marksOf, setOf, tailOf, badMoney, badStatus}
 use Rattle.record.specs.Rules.{table, malformed}
 use Rattle.record.proofs.Order.{noneBroken, accepted-exactly as record-accepted-exactly}
 use Rattle.posting.specs.declared.FileAnswer.{FileAnswer}
 use Rattle.posting.specs.File.{recordAt, refused, passed, totalsOver, recordsIn, fileAnswer}
-use Rattle.posting.proofs.Lines.{RightLine, clash}
+use Rattle.posting.proofs.Lines.{clash}
 use Rattle.posting.proofs.FirstBreak.{AllRight, FileOutcome, no-multiple, too-many, first-break, no-break, file-outcome, accepted-exactly}
 use Rattle.posting.proofs.RecordList.{upTo, kept, kept-last, isLive, isCancelled, live, cancelled, lineAt, lines, records, totalsOf, totals-are-sums, record-wide, line-is, records-tile}
 
@@ -78,12 +77,12 @@ map-upTo h f zero = refl
 map-upTo h f (suc n) = rw (map-last h (upTo f n) (f n), map-upTo h f n)
 
 -- ---- each record with a good status is counted once
-counted : (f : ℕ → List ℕ) (n : ℕ) → ((i : ℕ) → i < n → readStatus (fieldOf (f i) 19) ≡ Status.Malformed → ⊥) → length (live (upTo f n)) + length (cancelled (upTo f n)) ≡ n
+each-counted : (f : ℕ → List ℕ) (n : ℕ) → ((i : ℕ) → i < n → readStatus (fieldOf (f i) 19) ≡ Status.Malformed → ⊥) → length (live (upTo f n)) + length (cancelled (upTo f n)) ≡ n
 unfolding upTo kept
-counted f zero h = refl
-counted f (suc n) h =
+each-counted f zero h = refl
+each-counted f (suc n) h =
     rw (kept-last (λ r. isLive (readStatus (fieldOf r 19))) (upTo f n) (f n), kept-last (λ r. isCancelled (readStatus (fieldOf r 19))) (upTo f n) (f n))
-    (go (live (upTo f n)) (cancelled (upTo f n)) (readStatus (fieldOf (f n) 19)) (h n (omega arith)) (counted f n (λ i l. h i (omega arith))))
+    (go (live (upTo f n)) (cancelled (upTo f n)) (readStatus (fieldOf (f n) 19)) (h n (omega arith)) (each-counted f n (λ i l. h i (omega arith))))
   where
     go : (l c : List (List ℕ)) (s : StatusReading) → (s ≡ Status.Malformed → ⊥) → length l + length c ≡ n
         → length (l ++ cond (isLive s) (f n ∷ []) []) + length (c ++ cond (isCancelled s) (f n ∷ []) []) ≡ suc n
@@ -143,6 +142,6 @@ module _ (file : List ℕ) (z : fileAnswer file .code ≡ 0) where
     wide = wide-there;
     keeps = keeps-there;
     reads = λ i h. readable (recordAt file i) (keeps-there i h);
-    counts = counted (recordAt file) (recordsIn file) (λ i h. readable (recordAt file i) (keeps-there i h) .status);
+    counts = each-counted (recordAt file) (recordsIn file) (λ i h. readable (recordAt file i) (keeps-there i h) .status);
     answers = passes ∙ ap passed (totals-are-sums file (recordsIn file));
   }

@@ -1,7 +1,7 @@
 -- A file as a list: its lines joined give it, each line is a record of 399 bytes and two bytes, and the totals are counts and sums over its records.
 -- Assumes nothing.
-use Prim.Native.Nat.{ℕ, zero, suc, _+_, _*_, _/_, _%_, _≤_, _<_}
-use mathlib.Core.Path.{_≡_, refl, sym, ap, _∙_}
+use Prim.Native.Nat.{ℕ, zero, suc, _+_, _*_, _≤_, _<_}
+use mathlib.Core.Path.{_≡_, refl, sym, _∙_}
 use mathlib.Core.Bool.{Bool, true, false, cond}
 use mathlib.Core.List.{List, [], _∷_, _++_, map, append-nil, append-assoc}
 use native.Mathlib.Numerals.{add-one}
@@ -17,7 +17,7 @@ use Rattle.fields.specs.declared.StatusReading.the-variants as Status
 use Rattle.fields.specs.Amounts.{readMoney}
 use Rattle.fields.specs.Others.{readStatus}
 use Rattle.posting.specs.declared.Totals.{Totals}
-use Rattle.posting.specs.File.{recordAt, idAt, totals, amountIn, withStatus, withRecord, totalsOver, recordsIn}
+use Rattle.posting.specs.File.{recordAt, idAt, totals, amountIn, withStatus, withRecord, totalsOver}
 
 -- ---- the first n of a row: f 0, f 1, up to f (n - 1)
 unfoldable pub upTo : {A : Type 0} → (ℕ → A) → ℕ → List A
