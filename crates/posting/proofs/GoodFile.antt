@@ -1,5 +1,5 @@
 -- A file that is accepted: its records, each with its line end, are the file; each record keeps the table; every record is counted as live or as cancelled,
--- its amounts are read, and the answer has the totals over them.
+-- its amounts are well-formed, and the answer has the totals over them.
 -- Assumes nothing.
 use Prim.Native.Nat.{ℕ, zero, suc, _+_, _*_, _<_}
 use mathlib.Core.Path.{_≡_, refl, sym, ap, _∙_}
@@ -18,10 +18,9 @@ use Rattle.record.specs.Table.{Rule, placesFrom, anyCase, broken}
 use Rattle.record.specs.Readings.{whenOf, addressOf, contactOf, goodsOf, marksOf, setOf, tailOf, badMoney, badStatus}
 use Rattle.record.specs.Rules.{table, malformed}
 use Rattle.record.proofs.Order.{noneBroken, accepted-exactly as record-accepted-exactly}
-use Rattle.posting.specs.declared.FileAnswer.{FileAnswer}
-use Rattle.posting.specs.File.{recordAt, refused, passed, totalsOver, recordsIn, fileAnswer}
-use Rattle.posting.proofs.Lines.{clash}
-use Rattle.posting.proofs.FirstBreak.{AllRight, FileOutcome, no-multiple, too-many, first-break, no-break, file-outcome, accepted-exactly}
+use Rattle.posting.specs.File.{recordAt, passed, totalsOver, recordsIn, fileAnswer}
+use Rattle.posting.proofs.Lines.{clash, line-right-exactly}
+use Rattle.posting.proofs.FirstBreak.{AllRight, no-break, outcome-exactly, accepted-exactly}
 use Rattle.posting.proofs.RecordList.{upTo, kept, kept-last, isLive, isCancelled, live, cancelled, lineAt, lines, records, totalsOf, totals-are-sums, record-wide, line-is, records-tile}
 
 -- ---- a field 2 to 26 of a record that keeps the table is not malformed
@@ -44,11 +43,11 @@ second-kept r s rs h = go (broken r) (broken s) h
 abbrev pub malformedIn : List ℕ → List Bool
 malformedIn rec = malformed false (whenOf rec) (addressOf rec) (contactOf rec) (goodsOf rec) (marksOf rec) (setOf rec) (tailOf rec)
 
-none-malformed : (rec : List ℕ) → noneBroken (table false rec) ≡ true → (k : ℕ) → getD (malformedIn rec) k false ≡ false
+pub none-malformed : (rec : List ℕ) → noneBroken (table false rec) ≡ true → (k : ℕ) → getD (malformedIn rec) k false ≡ false
 unfolding table
 none-malformed rec h k = no-flag (malformedIn rec) 2 k (second-kept _ _ _ h)
 
--- what the totals read of such a record is there
+-- nor is what the totals read of it
 pub record Readable (rec : List ℕ) : Type 0 where
   pub status : readStatus (fieldOf rec 19) ≡ Status.Malformed → ⊥
   pub cash : readMoney (fieldOf rec 16) ≡ Money.Malformed → ⊥
@@ -125,16 +124,9 @@ module _ (file : List ℕ) (z : fileAnswer file .code ≡ 0) where
       ∙ sym (upTo-same (lineAt file) (λ i. withEnd (recordAt file i)) (recordsIn file) lines-end)
 
   passes : fileAnswer file ≡ passed (totalsOver file (recordsIn file))
-  passes = go (file-outcome file) z
-    where
-      coded : {a : FileAnswer} {c n p : ℕ} → a ≡ refused c n p → (c ≡ 0 → ⊥) → a .code ≡ 0 → ⊥
-      coded e n y = n (sym (ap (λ (x : FileAnswer). x .code) e) ∙ y)
-
-      go : {a : FileAnswer} → FileOutcome file a → a .code ≡ 0 → a ≡ passed (totalsOver file (recordsIn file))
-      go (no-multiple n e) y = absurd (coded e (λ q. omega arith) y)
-      go (too-many m l e) y = absurd (coded e (λ q. omega arith) y)
-      go (first-break m l i h b x e) y = absurd (coded e x y)
-      go (no-break m l b e) y = e
+  passes =
+      let a = all-right in
+      sym (outcome-exactly file _ .0 (no-break (a .multiple) (a .few) (λ i h. line-right-exactly file i .1 (a .lines i h)) refl))
 
   pub good-file : GoodFile file (recordsIn file)
   good-file = record {
