@@ -1,0 +1,111 @@
+-- The answer to one record of a file, in the paper's words: 212 for a wrong line end, then the record's table, then 2 for an identifier that an earlier
+-- record has; 0 exactly if none of them holds.
+-- Assumes nothing.
+use Prim.Native.Nat.{ℕ, zero, suc, _+_, _*_, _<_}
+use mathlib.Core.Path.{_≡_, refl, sym, ap, _∙_}
+use mathlib.Core.Bool.{Bool, true, false, cond, _&&_, _||_}
+use mathlib.Core.List.{List}
+use mathlib.Core.Logic.{_↔_}
+use native.Mathlib.Omega.{arith}
+use borrow.Author.Tests.{eqb-true, eqb-false, eq-eqb}
+use lib.Dec.{eqb}
+use lib.ListN.{getD}
+use Rattle.text.specs.declared.Answer.{Answer}
+use Rattle.text.specs.Answers.{answer, accepted}
+use Rattle.text.specs.Lists.{sameBytes}
+use Rattle.text.proofs.Lists.{same-exactly}
+use Rattle.record.specs.Columns.{orElse}
+use Rattle.record.specs.Rules.{recordAnswer}
+use Rattle.posting.specs.File.{recordAt, idAt, lineEnds, repeats, lineAnswer}
+
+-- ---- what the rules speak of
+-- record i is followed by 0Dh 0Ah
+pub record Ended (file : List ℕ) (i : ℕ) : Type 0 where
+  pub return : getD file (i * 401 + 399) 0 ≡ 13
+  pub feed : getD file (i * 401 + 400) 0 ≡ 10
+
+-- one of the first n records has the identifier of record i
+pub record Repeated (file : List ℕ) (i n : ℕ) : Type 0 where
+  pub earlier : ℕ
+  pub before : earlier < n
+  pub same : idAt file earlier ≡ idAt file i
+
+-- ---- the tests decide them
+pub clash : {b : Bool} → b ≡ true → b ≡ false → ⊥
+clash t f = let z : _≡_ {A = ℕ} 0 1 = cc in omega arith
+
+both : (a b : ℕ) (x y : ℕ) → (eqb a x && eqb b y ≡ true) ↔ ((a ≡ x) × (b ≡ y))
+both a b x y = (go (eqb a x) refl (eqb b y) refl, λ p. rw (eq-eqb a x (p .0), eq-eqb b y (p .1)))
+  where
+    go : (s : Bool) → eqb a x ≡ s → (t : Bool) → eqb b y ≡ t → s && t ≡ true → (a ≡ x) × (b ≡ y)
+    go true e true f h = (eqb-true a x e, eqb-true b y f)
+    go true e false f h = absurd (clash h refl)
+    go false e t f h = absurd (clash h refl)
+
+pub ended-exactly : (file : List ℕ) (i : ℕ) → (lineEnds file i ≡ true) ↔ Ended file i
+ended-exactly file i =
+    let b = both (getD file (i * 401 + 399) 0) (getD file (i * 401 + 400) 0) 13 10 in
+    (λ t. let p = b .0 t in record { return = p .0; feed = p .1 }, λ e. b .1 (e .return, e .feed))
+
+-- not the last of them, so one before it
+not-last : (file : List ℕ) (i n : ℕ) → sameBytes (idAt file n) (idAt file i) ≡ false → Repeated file i (suc n) → Repeated file i n
+not-last file i n e r = go (eqb (r .earlier) n) refl
+  where
+    go : (t : Bool) → eqb (r .earlier) n ≡ t → Repeated file i n
+    go true q =
+        let here : idAt file n ≡ idAt file i = rw (eqb-true (r .earlier) n q) at (r .same) in
+        absurd (clash (same-exactly (idAt file n) (idAt file i) .1 here) e)
+    go false q = let no = eqb-false (r .earlier) n q in record { earlier = r .earlier; before = omega (arith, r .before); same = r .same }
+
+-- some j < n has the identifier of record i
+pub repeats-exactly : (file : List ℕ) (i n : ℕ) → (repeats file i n ≡ true) ↔ Repeated file i n
+unfolding repeats
+repeats-exactly file i zero = (λ t. absurd (clash t refl), λ r. absurd (omega (arith, r .before)))
+repeats-exactly file i (suc n) = go (sameBytes (idAt file n) (idAt file i)) refl (repeats-exactly file i n)
+  where
+    go : (b : Bool) → sameBytes (idAt file n) (idAt file i) ≡ b → (repeats file i n ≡ true) ↔ Repeated file i n → (b || repeats file i n ≡ true) ↔ Repeated file i (suc n)
+    go true e h = (λ t. record { earlier = n; before = omega arith; same = same-exactly _ _ .0 e }, λ r. refl)
+    go false e h = (
+      λ t. let r = h .0 t in record { earlier = r .earlier; before = omega (arith, r .before); same = r .same },
+      λ r. h .1 (not-last file i n e r),
+    )
+
+-- ---- the answer to record i
+pub data LineOutcome (file : List ℕ) (i : ℕ) (a : Answer) : Type 0 where
+  ends-wrong : (Ended file i → ⊥) → a ≡ answer 212 0 → LineOutcome file i a
+  breaks-table : Ended file i → (recordAnswer false (recordAt file i) .code ≡ 0 → ⊥) → a ≡ recordAnswer false (recordAt file i) → LineOutcome file i a
+  repeats-earlier : Ended file i → recordAnswer false (recordAt file i) .code ≡ 0 → Repeated file i i → a ≡ answer 2 1 → LineOutcome file i a
+  right : Ended file i → recordAnswer false (recordAt file i) .code ≡ 0 → (Repeated file i i → ⊥) → a ≡ accepted → LineOutcome file i a
+
+pub line-outcome : (file : List ℕ) (i : ℕ) → LineOutcome file i (lineAnswer file i)
+unfolding lineAnswer orElse
+line-outcome file i = go (lineEnds file i) refl (eqb (recordAnswer false (recordAt file i) .code) 0) refl (repeats file i i) refl
+  where
+    go : (s : Bool) → lineEnds file i ≡ s → (t : Bool) → eqb (recordAnswer false (recordAt file i) .code) 0 ≡ t → (u : Bool) → repeats file i i ≡ u
+        → LineOutcome file i (cond s (cond t (cond u (answer 2 1) accepted) (recordAnswer false (recordAt file i))) (answer 212 0))
+    go false e t f u g = ends-wrong (λ x. clash (ended-exactly file i .1 x) e) refl
+    go true e false f u g = breaks-table (ended-exactly file i .0 e) (eqb-false _ 0 f) refl
+    go true e true f true g = repeats-earlier (ended-exactly file i .0 e) (eqb-true _ 0 f) (repeats-exactly file i i .0 g) refl
+    go true e true f false g = right (ended-exactly file i .0 e) (eqb-true _ 0 f) (λ x. clash (repeats-exactly file i i .1 x) g) refl
+
+-- ---- code 0
+-- record i keeps every rule
+pub record RightLine (file : List ℕ) (i : ℕ) : Type 0 where
+  pub ended : Ended file i
+  pub table : recordAnswer false (recordAt file i) .code ≡ 0
+  pub fresh : (j : ℕ) → j < i → idAt file j ≡ idAt file i → ⊥
+
+pub line-right-exactly : (file : List ℕ) (i : ℕ) → (lineAnswer file i .code ≡ 0) ↔ RightLine file i
+line-right-exactly file i = go (line-outcome file i)
+  where
+    not-coded : {a : Answer} {c p : ℕ} → a ≡ answer c p → (c ≡ 0 → ⊥) → a .code ≡ 0 → ⊥
+    not-coded e n z = n (sym (ap (λ (x : Answer). x .code) e) ∙ z)
+
+    go : {a : Answer} → LineOutcome file i a → (a .code ≡ 0) ↔ RightLine file i
+    go (ends-wrong n e) = (λ z. absurd (not-coded e (λ q. omega arith) z), λ r. absurd (n (r .ended)))
+    go (breaks-table d n e) = (λ z. absurd (n (rw e at z)), λ r. absurd (n (r .table)))
+    go (repeats-earlier d t r e) = (λ z. absurd (not-coded e (λ q. omega arith) z), λ x. absurd (x .fresh (r .earlier) (r .before) (r .same)))
+    go (right d t n e) = (
+      λ z. record { ended = d; table = t; fresh = λ j h q. n (record { earlier = j; before = h; same = q }) },
+      λ r. ap (λ (x : Answer). x .code) e,
+    )
