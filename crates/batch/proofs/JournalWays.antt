@@ -19,7 +19,7 @@ use Rattle.record.specs.Rules.{recordAnswer}
 use Rattle.batch.specs.declared.Walk.{Walk}
 use Rattle.batch.specs.Actions.{seek, present, placeOf, isCancelled, idOf, liveAnswer, addAnswer, amendAnswer, cancelAnswer, withLine, withCancelled, actionAnswer, actionFile, actionHeld}
 use Rattle.batch.specs.Journal.{bodyLength, entryLength, headStands, startsEntry, kindAt, bodyAt, Run, runOf, stepAs, stepOf}
-use Rattle.batch.specs.Duties.{Acceptable, Stepping, Stepped}
+use Rattle.batch.specs.Duties.{Acceptable, Stepping, Moved, Stepped}
 
 clash : (b : Bool) → b ≡ true → b ≡ false → ⊥
 clash b p q = let z : _≡_ {A = ℕ} 0 1 = cc in omega arith
@@ -100,6 +100,14 @@ module _ (file body : List ℕ) (held kind : ℕ) (pre : Acceptable file held ki
     pub cancels-within : (n - 1 ≤ 999) × ((n - 1) * 401 + 401 ≤ length file)
     cancels-within = place-within n cancels-some (en .1)
 
+-- how many records stand behind an accepted action
+held-within : (file body : List ℕ) (held kind : ℕ) → Acceptable file held kind body → length file ≤ 400599 → (actionHeld held kind ≤ 999) × (actionHeld held kind * 401 ≤ length file)
+held-within file body held kind pre b = go (eqb kind 1) refl
+  where
+    go : (t : Bool) → eqb kind 1 ≡ t → (cond t (held + 1) held ≤ 999) × (cond t (held + 1) held * 401 ≤ length file)
+    go true e = let w = adds-within file body held kind pre (eqb-true kind 1 e) in (omega (arith, w .1), omega (arith, w .1))
+    go false e = (pre .few, pre .fits)
+
 -- ---- act
 pub acted-add : (file t body : List ℕ) (held kind : ℕ) → kind ≡ 1 → t ≡ withLine file held body → t ≡ actionFile file held kind body
 unfolding actionFile
@@ -164,12 +172,9 @@ entry-fits j end at k ek n = rw ek (go (startsEntry j end at 1) (startsEntry j e
 
 -- ---- step
 module _ (file journal : List ℕ) (end held used k : ℕ) (ek : k ≡ kindAt journal end used) where
-  walkOf : Bool → ℕ → ℕ → ℕ → Walk
-  walkOf good h u l = record { good = good; held = h; used = u; last = l }
-
   pub no-entry : k ≡ 0 → Stepped file journal end held used (record { good = false; held = held; used = used; last = used }) file
   unfolding stepAs
-  no-entry z = record { walks = rw (← ek, eq-eqb k 0 z); files = rw (← ek, eq-eqb k 0 z) }
+  no-entry z = record { walks = rw (← ek, eq-eqb k 0 z); files = rw (← ek, eq-eqb k 0 z); from = refl; moves = λ g. absurd (clash false g refl) }
 
   module _ (some : k ≡ 0 → ⊥) (n : ℕ) (en : (n ≡ bodyLength k) × (13 ≤ n) × (n ≤ 399)) where
     -- what the code takes for the body
@@ -185,7 +190,7 @@ module _ (file journal : List ℕ) (end held used k : ℕ) (ek : k ≡ kindAt jo
 
       pub entry-refused : (a .code ≡ 0 → ⊥) → Stepped file journal end held used (record { good = false; held = held; used = used; last = used }) file
       unfolding stepAs
-      entry-refused z = record { walks = rw (← ek, ne-eqb k 0 some, here, ne-eqb (a .code) 0 z); files = rw (← ek, ne-eqb k 0 some, here, ne-eqb (a .code) 0 z) }
+      entry-refused z = record { walks = rw (← ek, ne-eqb k 0 some, here, ne-eqb (a .code) 0 z); files = rw (← ek, ne-eqb k 0 some, here, ne-eqb (a .code) 0 z); from = refl; moves = λ g. absurd (clash false g refl) }
 
       pub entry-acceptable : a .code ≡ 0 → Stepping file journal end held used → Acceptable file held k (take (used + 4 + n - (used + 4)) (drop (used + 4) journal))
       entry-acceptable z pre =
@@ -193,10 +198,15 @@ module _ (file journal : List ℕ) (end held used k : ℕ) (ek : k ≡ kindAt jo
           let long : length (take (used + 4 + n - (used + 4)) (drop (used + 4) journal)) ≡ n = mid-len (used + 4) (used + 4 + n) journal room ∙ add-sub-cancel-left (used + 4) n in
           record { few = pre .few; fits = pre .fits; sized = long ∙ en .0; accepts = rw (← ea) z }
 
-      pub entry-done : (t : List ℕ) (h : ℕ) → a .code ≡ 0 → t ≡ actionFile file held k (take (used + 4 + n - (used + 4)) (drop (used + 4) journal)) → h ≡ actionHeld held k
+      pub entry-done : (t : List ℕ) (h : ℕ) → a .code ≡ 0 → Stepping file journal end held used → t ≡ actionFile file held k (take (used + 4 + n - (used + 4)) (drop (used + 4) journal)) → h ≡ actionHeld held k
           → Stepped file journal end held used (record { good = true; held = h; used = used + 4 + n; last = used }) t
       unfolding stepAs
-      entry-done t h z et eh =
+      entry-done t h z pre et eh =
           let file-is : t ≡ actionFile file held k (bodyAt journal used k) = et ∙ ap (actionFile file held k) body-is in
           let next : used + 4 + n ≡ used + entryLength k = omega (arith, en .0) in
-          record { walks = rw (← ek, ne-eqb k 0 some, here, eq-eqb (a .code) 0 z, next, eh); files = rw (← ek, ne-eqb k 0 some, here, eq-eqb (a .code) 0 z) file-is }
+          record { walks = rw (← ek, ne-eqb k 0 some, here, eq-eqb (a .code) 0 z, next, eh); files = rw (← ek, ne-eqb k 0 some, here, eq-eqb (a .code) 0 z) file-is; from = refl; moves = λ g. moved }
+        where
+          moved : Moved file end used (record { good = true; held = h; used = used + 4 + n; last = used })
+          moved =
+              let holds = held-within file (take (used + 4 + n - (used + 4)) (drop (used + 4) journal)) held k (entry-acceptable z pre) (pre .bounded) in
+              record { few = rw eh (holds .0); fits = rw eh (holds .1); forward = omega arith; before = omega (arith, entry-fits journal end used k ek some, en .0, pre .before) }

@@ -1,2 +1,3 @@
 pub mod ActionWays
 pub mod JournalWays
+pub mod ReplayWays

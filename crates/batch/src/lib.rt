@@ -1,10 +1,13 @@
 // The open batch: a lent file buffer, a lent journal and counts by value; additions, amendments, cancellations and undo.
 ghost use mathlib.Core.Path.{_≡_};
 ghost use Prim.Native.Nat.{_+_, _*_, _≤_, _<_};
-ghost use lib.ListN.{length};
+ghost use lib.ListN.{length, drop};
+ghost use Rattle.text.specs.Bytes.{every};
+ghost use Rattle.posting.specs.File.{totalsOver};
 ghost use Rattle.batch.specs.Actions.{seek, liveAnswer, addAnswer, amendAnswer, cancelAnswer, lineOf, withLine, withCancelled, actionAnswer, actionFile, actionHeld};
 ghost use Rattle.batch.specs.Journal.{bodyLength, headStands, kindAt};
-ghost use Rattle.batch.specs.Duties.{Acceptable, Stepping, Stepped};
+ghost use Rattle.batch.specs.Duties.{Acceptable, Stepping, Stepped, Replayed};
+ghost use Rattle.batch.specs.Batch.{isZero, sameTotals, rightLengths};
 use fields::Hellers;
 use posting::Totals;
 use text::Answer;
@@ -265,4 +268,86 @@ fn held_after(held: usize, kind: u8) -> usize
     ensures { λ r. ⌜ r ≡ actionHeld held kind ⌝ }
 {
     if kind == 1 { held + 1 } else { held }
+}
+
+// Makes the file anew from the journal's entries up to `end`.
+fn replay(file: &mut [u8], journal: &[u8], end: usize) -> Walk
+    requires { ⌜ (end ≤ length (now journal)) × (length (now file) ≤ 400599) ⌝ }
+    ensures { λ r. ⌜ Replayed (now (file .entry)) (now (journal .entry)) end r (now (file .exit)) ⌝ }
+{
+    text::fill(file, 0);
+    let mut held = 0;
+    let mut used = 0;
+    let mut last = 0;
+    while used < end {
+        let w = step(file, journal, end, held, used);
+        if !w.good {
+            return w;
+        }
+        held = w.held;
+        used = w.used;
+        last = w.last;
+    }
+    Walk {
+        good: true,
+        held,
+        used,
+        last,
+    }
+}
+
+// ---- the state
+
+fn zero_from(s: &[u8], from: usize) -> bool
+    requires { ⌜ from ≤ length (now s) ⌝ }
+    ensures { λ r. ⌜ r ≡ every isZero (drop from (now (s .entry))) ⌝ }
+{
+    let mut i = from;
+    while i < s.len() {
+        if s[i] != 0 {
+            return false;
+        }
+        i += 1;
+    }
+    true
+}
+
+// The totals over the first n records of a file.
+fn totals_over(file: &[u8], n: usize) -> Totals
+    requires { ⌜ (n ≤ 999) × (n * 401 ≤ length (now file)) ⌝ }
+    ensures { λ r. ⌜ r ≡ totalsOver (now (file .entry)) n ⌝ }
+{
+    let mut t = Totals {
+        live: 0,
+        cancelled: 0,
+        cash: Hellers(0),
+        price: Hellers(0),
+    };
+    let mut i = 0;
+    while i < n {
+        let a = i * 401;
+        let e = a + 399;
+        t = posting::count_record(t, &file[a..e]);
+        i += 1;
+    }
+    t
+}
+
+fn same_totals(a: Totals, b: Totals) -> bool
+    ensures { λ r. ⌜ r ≡ sameTotals a b ⌝ }
+{
+    let a_cash = a.cash;
+    let b_cash = b.cash;
+    let a_price = a.price;
+    let b_price = b.price;
+    (a.live == b.live)
+        & (a.cancelled == b.cancelled)
+        & (a_cash.0 == b_cash.0)
+        & (a_price.0 == b_price.0)
+}
+
+fn right_lengths(n: usize, m: usize) -> bool
+    ensures { λ r. ⌜ r ≡ rightLengths n m ⌝ }
+{
+    (n % 401 == 0) & (401 <= n) & (n <= 400_599) & (403 <= m) & (m <= 1_048_576)
 }
