@@ -2,3 +2,4 @@ pub mod Actions
 pub mod Journal
 pub mod Duties
 pub mod Batch
+pub mod Guards

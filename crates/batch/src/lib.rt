@@ -1,12 +1,14 @@
 // The open batch: a lent file buffer, a lent journal and counts by value; additions, amendments, cancellations and undo.
 ghost use mathlib.Core.Path.{_≡_};
 ghost use Prim.Native.Nat.{_+_, _*_, _≤_, _<_};
-ghost use lib.ListN.{length, drop};
+ghost use lib.ListN.{length, getD, drop};
+ghost use Rattle.text.specs.Lists.{overlay};
 ghost use Rattle.text.specs.Bytes.{every};
 ghost use Rattle.posting.specs.File.{totalsOver};
 ghost use Rattle.batch.specs.Actions.{seek, liveAnswer, addAnswer, amendAnswer, cancelAnswer, lineOf, withLine, withCancelled, actionAnswer, actionFile, actionHeld};
-ghost use Rattle.batch.specs.Journal.{bodyLength, headStands, kindAt};
+ghost use Rattle.batch.specs.Journal.{bodyLength, head, entry, headStands, kindAt};
 ghost use Rattle.batch.specs.Duties.{Acceptable, Stepping, Stepped, Replayed};
+ghost use Rattle.batch.specs.Guards.{Verified, Guarded};
 ghost use Rattle.batch.specs.Batch.{isZero, sameTotals, rightLengths};
 use fields::Hellers;
 use posting::Totals;
@@ -350,4 +352,107 @@ fn right_lengths(n: usize, m: usize) -> bool
     ensures { λ r. ⌜ r ≡ rightLengths n m ⌝ }
 {
     (n % 401 == 0) & (401 <= n) & (n <= 400_599) & (403 <= m) & (m <= 1_048_576)
+}
+
+// Replays the journal into a scratch buffer and compares.
+fn verify_with(scratch: &mut [u8], file: &[u8], journal: &[u8], c: Counts) -> bool
+    requires { ⌜ (length (now scratch) ≡ length (now file)) × (length (now file) ≤ 400599) ⌝ }
+    ensures { λ r. ⌜ Verified (now (file .entry)) (now (journal .entry)) c r ⌝ }
+{
+    let used = c.used;
+    let held = c.held;
+    let totals = c.totals;
+    if journal.len() < used {
+        return false;
+    }
+    let w = replay(scratch, journal, used);
+    if !w.good {
+        return false;
+    }
+    if w.held != held {
+        return false;
+    }
+    if !text::same(scratch, file) {
+        return false;
+    }
+    if !zero_from(journal, used) {
+        return false;
+    }
+    same_totals(totals_over(file, held), totals)
+}
+
+// The one function that holds a scratch buffer as long as a file can be.
+fn verify(file: &[u8], journal: &[u8], c: Counts) -> bool
+    requires { ⌜ length (now file) ≤ 400599 ⌝ }
+    ensures { λ r. ⌜ Verified (now (file .entry)) (now (journal .entry)) c r ⌝ }
+{
+    let n = file.len();
+    let mut scratch = [0u8; 400599];
+    verify_with(&mut scratch[..n], file, journal, c)
+}
+
+// What every call but opening checks first: 235, then 237.
+fn guard(file: &[u8], journal: &[u8], c: Counts) -> Answer
+    ensures { λ r. ⌜ Guarded (now (file .entry)) (now (journal .entry)) c r ⌝ }
+{
+    if !right_lengths(file.len(), journal.len()) {
+        return Answer {
+            code: 235,
+            place: 0,
+        };
+    }
+    if !verify(file, journal, c) {
+        return Answer {
+            code: 237,
+            place: 0,
+        };
+    }
+    Answer { code: 0, place: 0 }
+}
+
+// ---- writing entries
+
+fn copy(part: &mut [u8], s: &[u8])
+    requires { ⌜ length (now part) ≡ length (now s) ⌝ }
+    ensures { λ _. ⌜ now (part .exit) ≡ now (s .entry) ⌝ }
+{
+    let mut i = 0;
+    while i < s.len() {
+        part[i] = s[i];
+        i += 1;
+    }
+}
+
+// The first byte of an entry's length; the second is 0 for a cancellation, else 1.
+fn low_byte(kind: u8) -> u8
+    ensures { λ r. ⌜ r ≡ getD (head kind) 0 0 ⌝ }
+{
+    if kind == 2 { 17 } else { 147 }
+}
+
+fn high_byte(kind: u8) -> u8
+    ensures { λ r. ⌜ r ≡ getD (head kind) 1 0 ⌝ }
+{
+    if kind == 2 { 0 } else { 1 }
+}
+
+// Writes an entry into a part that is as long.
+fn write_entry(part: &mut [u8], kind: u8, body: &[u8])
+    requires { ⌜ length (now part) ≡ length (now body) + 4 ⌝ }
+    ensures { λ _. ⌜ now (part .exit) ≡ entry kind (now (body .entry)) ⌝ }
+{
+    let n = part.len();
+    copy(&mut part[4..n], body);
+    part[0] = low_byte(kind);
+    part[1] = high_byte(kind);
+    part[2] = kind;
+    part[3] = 0;
+}
+
+fn put_entry(journal: &mut [u8], at: usize, kind: u8, body: &[u8])
+    requires { ⌜ (length (now body) ≤ 399) × (at + (length (now body) + 4) ≤ length (now journal)) ⌝ }
+    ensures { λ _. ⌜ now (journal .exit) ≡ overlay (now (journal .entry)) at (entry kind (now (body .entry))) ⌝ }
+{
+    let e = at + (body.len() + 4);
+    write_entry(&mut journal[at..e], kind, body);
 }
