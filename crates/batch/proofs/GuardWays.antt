@@ -20,6 +20,7 @@ use Rattle.fields.specs.declared.Hellers.{Hellers}
 use Rattle.posting.specs.declared.Totals.{Totals}
 use Rattle.posting.specs.File.{totalsOver}
 use Rattle.batch.specs.declared.Counts.{Counts}
+use Rattle.batch.specs.declared.Verdict.{Verdict}
 use Rattle.batch.specs.declared.Walk.{Walk}
 use Rattle.batch.specs.Journal.{head, entry, rebuilt, Run}
 use Rattle.batch.specs.Duties.{Replayed}
@@ -46,12 +47,12 @@ totals-same a b h =
     (eqb-true (a .live) (b .live) (p2 .0)) (eqb-true (a .cancelled) (b .cancelled) (p2 .1)) (eqb-true (a .cash .0) (b .cash .0) (p3 .1)) (eqb-true (a .price .0) (b .price .0) (p4 .1))
 
 -- a test that failed
-refused-by : (file journal : List ℕ) (c : Counts) → sound (batchOf file journal c) ≡ false → Verified file journal c false
-refused-by file journal c e = record { says = sym e; ready = λ y. absurd (clash false y refl) }
+refused-by : (file journal : List ℕ) (c : Counts) (r : Verdict) → r .sound ≡ false → sound (batchOf file journal c) ≡ false → Verified file journal c r
+refused-by file journal c r f e = record { says = f ∙ sym e; ready = λ y. absurd (clash (r .sound) y f); finds = λ y. absurd (clash (r .sound) y f) }
 
-pub used-past : (file journal : List ℕ) (c : Counts) → length journal < c .used → Verified file journal c false
+pub used-past : (file journal : List ℕ) (c : Counts) (r : Verdict) → r .sound ≡ false → length journal < c .used → Verified file journal c r
 unfolding sound
-used-past file journal c h = refused-by file journal c (rw (lt-leb (c .used) (length journal) h))
+used-past file journal c r f h = refused-by file journal c r f (rw (lt-leb (c .used) (length journal) h))
 
 -- the replay of a sound batch, in a scratch buffer as long as the file
 module _ (scratch file journal : List ℕ) (c : Counts) (pre : (length scratch ≡ length file) × (length file ≤ 400599)) (u : c .used ≤ length journal)
@@ -62,33 +63,34 @@ module _ (scratch file journal : List ℕ) (c : Counts) (pre : (length scratch �
   file-is : rebuilt (length file) journal (c .used) .file ≡ made
   file-is = rw (← pre .0) (sym (p .files))
 
-  pub walk-bad : not (w .good) ≡ true → Verified file journal c false
+  pub walk-bad : (r : Verdict) → r .sound ≡ false → not (w .good) ≡ true → Verified file journal c r
   unfolding sound
-  walk-bad n = refused-by file journal c (rw (le-leb (c .used) (length journal) u, walk-is, not-true (w .good) n))
+  walk-bad r f n = refused-by file journal c r f (rw (le-leb (c .used) (length journal) u, walk-is, not-true (w .good) n))
 
   module _ (g : not (w .good) ≡ false) where
-    pub held-other : (w .held ≡ c .held → ⊥) → Verified file journal c false
+    pub held-other : (r : Verdict) → r .sound ≡ false → (w .held ≡ c .held → ⊥) → Verified file journal c r
     unfolding sound
-    held-other n = refused-by file journal c (rw (le-leb (c .used) (length journal) u, walk-is, not-false (w .good) g, ne-eqb (w .held) (c .held) n))
+    held-other r f n = refused-by file journal c r f (rw (le-leb (c .used) (length journal) u, walk-is, not-false (w .good) g, ne-eqb (w .held) (c .held) n))
 
     module _ (h : w .held ≡ c .held) (s : Bool) (es : s ≡ sameBytes made file) where
       pub holds-so : (c .held ≤ 999) × (c .held * 401 ≤ length file)
       holds-so = let q = p .holds (not-false (w .good) g) in (rw (← h) (q .0), rw (← h, ← pre .0) (q .1))
 
-      pub file-other : not s ≡ true → Verified file journal c false
+      pub file-other : (r : Verdict) → r .sound ≡ false → not s ≡ true → Verified file journal c r
       unfolding sound
-      file-other n = refused-by file journal c (rw (le-leb (c .used) (length journal) u, walk-is, file-is, not-false (w .good) g, eq-eqb (w .held) (c .held) h, ← es, not-true s n))
+      file-other r f n = refused-by file journal c r f (rw (le-leb (c .used) (length journal) u, walk-is, file-is, not-false (w .good) g, eq-eqb (w .held) (c .held) h, ← es, not-true s n))
 
       module _ (ns : not s ≡ false) (z : Bool) (ez : z ≡ every isZero (drop (c .used) journal)) where
-        pub rest-not-zero : not z ≡ true → Verified file journal c false
+        pub rest-not-zero : (r : Verdict) → r .sound ≡ false → not z ≡ true → Verified file journal c r
         unfolding sound
-        rest-not-zero n = refused-by file journal c (rw (le-leb (c .used) (length journal) u, walk-is, file-is, not-false (w .good) g, eq-eqb (w .held) (c .held) h, ← es, not-false s ns, ← ez, not-true z n))
+        rest-not-zero r f n = refused-by file journal c r f (rw (le-leb (c .used) (length journal) u, walk-is, file-is, not-false (w .good) g, eq-eqb (w .held) (c .held) h, ← es, not-false s ns, ← ez, not-true z n))
 
-        pub by-totals : (t : Totals) (r : Bool) → not z ≡ false → t ≡ totalsOver file (c .held) → r ≡ sameTotals t (c .totals) → Verified file journal c r
+        pub by-totals : (t : Totals) (r : Bool) → not z ≡ false → t ≡ totalsOver file (c .held) → r ≡ sameTotals t (c .totals) → Verified file journal c (record { sound = r; last = w .last })
         unfolding sound
         by-totals t r nz et er = record {
           says = rw (le-leb (c .used) (length journal) u, walk-is, file-is, not-false (w .good) g, eq-eqb (w .held) (c .held) h, ← es, not-false s ns, ← ez, not-false z nz, ← et) er;
-          ready = λ y. record { few = holds-so .0; fits = holds-so .1; within = u; totals = sym (totals-same t (c .totals) (sym er ∙ y)) ∙ et };
+          ready = λ y. record { few = holds-so .0; fits = holds-so .1; within = u; totals = sym (totals-same t (c .totals) (sym er ∙ y)) ∙ et; back = omega (arith, p .back, ap (λ (x : Walk). x .last) walk-is) };
+          finds = λ y. sym (ap (λ (x : Walk). x .last) walk-is);
         }
 
 -- ---- verify
@@ -96,8 +98,8 @@ pub scratch-long : (n k a : ℕ) → n ≤ k → length (take n (replicate k a))
 scratch-long n k a h = length-take-le n (replicate k a) (rw (length-replicate k a) h)
 
 -- ---- guard
-pub lengths-wrong : (file journal : List ℕ) (c : Counts) (b : Bool) → b ≡ rightLengths (length file) (length journal) → not b ≡ true → Guarded file journal c (answer 235 0)
-lengths-wrong file journal c b e n = record { says = rw (← e, not-true b n); ready = λ z. absurd (omega (arith, z)) }
+pub lengths-wrong : (file journal : List ℕ) (c : Counts) (b : Bool) → b ≡ rightLengths (length file) (length journal) → not b ≡ true → Guarded file journal c (record { answer = answer 235 0; last = 0 })
+lengths-wrong file journal c b e n = record { says = rw (← e, not-true b n); ready = λ z. absurd (omega (arith, z)); lengths = λ z. absurd (omega (arith, z)); finds = λ z. absurd (omega (arith, z)) }
 
 pub lengths-file : (n m : ℕ) (b : Bool) → b ≡ rightLengths n m → not b ≡ false → n ≤ 400599
 unfolding rightLengths
@@ -107,12 +109,17 @@ lengths-file n m b e f =
     let q = and-eq-true-iff (eqb (n % 401) 0 && leb 401 n && leb n 400599) (leb 403 m) .0 (p .0) in
     leb-true n 400599 (and-eq-true-iff (eqb (n % 401) 0 && leb 401 n) (leb n 400599) .0 (q .0) .1)
 
-module _ (file journal : List ℕ) (c : Counts) (b : Bool) (e : b ≡ rightLengths (length file) (length journal)) (f : not b ≡ false) (v : Bool) (ev : Verified file journal c v) where
-  pub not-sound : not v ≡ true → Guarded file journal c (answer 237 0)
-  not-sound n = record { says = rw (← e, not-false b f, ← ev .says, not-true v n); ready = λ z. absurd (omega (arith, z)) }
+module _ (file journal : List ℕ) (c : Counts) (b : Bool) (e : b ≡ rightLengths (length file) (length journal)) (f : not b ≡ false) (v : Verdict) (ev : Verified file journal c v) where
+  pub not-sound : not (v .sound) ≡ true → Guarded file journal c (record { answer = answer 237 0; last = 0 })
+  not-sound n = record { says = rw (← e, not-false b f, ← ev .says, not-true (v .sound) n); ready = λ z. absurd (omega (arith, z)); lengths = λ z. absurd (omega (arith, z)); finds = λ z. absurd (omega (arith, z)) }
 
-  pub all-sound : not v ≡ false → Guarded file journal c accepted
-  all-sound n = record { says = rw (← e, not-false b f, ← ev .says, not-false v n); ready = λ z. ev .ready (not-false v n) }
+  pub all-sound : not (v .sound) ≡ false → Guarded file journal c (record { answer = accepted; last = v .last })
+  all-sound n = record {
+    says = rw (← e, not-false b f, ← ev .says, not-false (v .sound) n);
+    ready = λ z. ev .ready (not-false (v .sound) n);
+    lengths = λ z. sym e ∙ not-false b f;
+    finds = λ z. ev .finds (not-false (v .sound) n);
+  }
 
 -- ---- writing entries
 pub copied-all : (s t u : List ℕ) (i : ℕ) → length s ≡ length t → length t ≤ i → i ≤ length t → u ≡ take i t ++ drop i s → u ≡ t

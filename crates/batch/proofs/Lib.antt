@@ -2,3 +2,5 @@ pub mod ActionWays
 pub mod JournalWays
 pub mod ReplayWays
 pub mod GuardWays
+pub mod CountWays
+pub mod CallWays

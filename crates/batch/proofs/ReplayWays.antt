@@ -138,7 +138,7 @@ unfolding every
 zero-ends s i r known h = rw (ended s i h) at known
 
 -- ---- totals_over
-small-so-far : (file : List ℕ) (n : ℕ) → n < 1000 → Small (totalsOver file n)
+pub small-so-far : (file : List ℕ) (n : ℕ) → n < 1000 → Small (totalsOver file n)
 small-so-far file n h =
     let b = totals-bounded file n in
     record { live = omega (arith, b .counts); cancelled = omega (arith, b .counts); cash = omega (arith, b .cash); price = omega (arith, b .price) }

@@ -1,16 +1,22 @@
 // The open batch: a lent file buffer, a lent journal and counts by value; additions, amendments, cancellations and undo.
 ghost use mathlib.Core.Path.{_≡_};
-ghost use Prim.Native.Nat.{_+_, _*_, _≤_, _<_};
+ghost use mathlib.Core.Bool.{false};
+ghost use Prim.Native.Nat.{_+_, _-_, _*_, _≤_, _<_};
 ghost use lib.ListN.{length, getD, drop};
 ghost use Rattle.text.specs.Lists.{overlay};
 ghost use Rattle.text.specs.Bytes.{every};
-ghost use Rattle.posting.specs.File.{totalsOver};
-ghost use Rattle.batch.specs.Actions.{seek, liveAnswer, addAnswer, amendAnswer, cancelAnswer, lineOf, withLine, withCancelled, actionAnswer, actionFile, actionHeld};
+ghost use Rattle.layout.specs.Layout.{fieldOf};
+ghost use Rattle.fields.specs.Amounts.{readMoney};
+ghost use Rattle.posting.specs.Bounds.{Small};
+ghost use Rattle.posting.specs.File.{amountIn, totalsOver};
+ghost use Rattle.batch.specs.Actions.{seek, liveAnswer, addAnswer, amendAnswer, cancelAnswer, lineOf, withLine, withCancelled, actionAnswer, actionFile, actionHeld, oneLiveMore, oneCancelled, amountsReplaced};
 ghost use Rattle.batch.specs.Journal.{bodyLength, head, entry, headStands, kindAt};
 ghost use Rattle.batch.specs.Duties.{Acceptable, Stepping, Stepped, Replayed};
-ghost use Rattle.batch.specs.Guards.{Verified, Guarded};
-ghost use Rattle.batch.specs.Batch.{isZero, sameTotals, rightLengths};
+ghost use Rattle.batch.specs.Guards.{Verified, Guarded, Countable, countsAfter, Passed, Worked};
+ghost use Rattle.batch.specs.Batch.{isZero, sameTotals, rightLengths, countsOf, noCounts};
 use fields::Hellers;
+use fields::MoneyReading;
+use fields::Sum;
 use posting::Totals;
 use text::Answer;
 
@@ -27,6 +33,24 @@ pub struct Walk {
     pub held: usize,
     pub used: usize,
     pub last: usize,
+}
+
+// What the test of the state finds: whether the batch is sound, and where its latest entry starts.
+pub struct Verdict {
+    pub sound: bool,
+    pub last: usize,
+}
+
+// What a call finds before its work: 235 or 237, or 0 and where the latest entry starts.
+pub struct Gate {
+    pub answer: Answer,
+    pub last: usize,
+}
+
+// What a call gives: its answer and the next counts.
+pub struct Outcome {
+    pub answer: Answer,
+    pub counts: Counts,
 }
 
 // ---- the consignment with an identifier
@@ -354,8 +378,17 @@ fn right_lengths(n: usize, m: usize) -> bool
     (n % 401 == 0) & (401 <= n) & (n <= 400_599) & (403 <= m) & (m <= 1_048_576)
 }
 
+fn unsound() -> Verdict
+    ensures { λ r. ⌜ r .sound ≡ false ⌝ }
+{
+    Verdict {
+        sound: false,
+        last: 0,
+    }
+}
+
 // Replays the journal into a scratch buffer and compares.
-fn verify_with(scratch: &mut [u8], file: &[u8], journal: &[u8], c: Counts) -> bool
+fn verify_with(scratch: &mut [u8], file: &[u8], journal: &[u8], c: Counts) -> Verdict
     requires { ⌜ (length (now scratch) ≡ length (now file)) × (length (now file) ≤ 400599) ⌝ }
     ensures { λ r. ⌜ Verified (now (file .entry)) (now (journal .entry)) c r ⌝ }
 {
@@ -363,26 +396,29 @@ fn verify_with(scratch: &mut [u8], file: &[u8], journal: &[u8], c: Counts) -> bo
     let held = c.held;
     let totals = c.totals;
     if journal.len() < used {
-        return false;
+        return unsound();
     }
     let w = replay(scratch, journal, used);
     if !w.good {
-        return false;
+        return unsound();
     }
     if w.held != held {
-        return false;
+        return unsound();
     }
     if !text::same(scratch, file) {
-        return false;
+        return unsound();
     }
     if !zero_from(journal, used) {
-        return false;
+        return unsound();
     }
-    same_totals(totals_over(file, held), totals)
+    Verdict {
+        sound: same_totals(totals_over(file, held), totals),
+        last: w.last,
+    }
 }
 
 // The one function that holds a scratch buffer as long as a file can be.
-fn verify(file: &[u8], journal: &[u8], c: Counts) -> bool
+fn verify(file: &[u8], journal: &[u8], c: Counts) -> Verdict
     requires { ⌜ length (now file) ≤ 400599 ⌝ }
     ensures { λ r. ⌜ Verified (now (file .entry)) (now (journal .entry)) c r ⌝ }
 {
@@ -392,22 +428,32 @@ fn verify(file: &[u8], journal: &[u8], c: Counts) -> bool
 }
 
 // What every call but opening checks first: 235, then 237.
-fn guard(file: &[u8], journal: &[u8], c: Counts) -> Answer
+fn guard(file: &[u8], journal: &[u8], c: Counts) -> Gate
     ensures { λ r. ⌜ Guarded (now (file .entry)) (now (journal .entry)) c r ⌝ }
 {
     if !right_lengths(file.len(), journal.len()) {
-        return Answer {
-            code: 235,
-            place: 0,
+        return Gate {
+            answer: Answer {
+                code: 235,
+                place: 0,
+            },
+            last: 0,
         };
     }
-    if !verify(file, journal, c) {
-        return Answer {
-            code: 237,
-            place: 0,
+    let verdict = verify(file, journal, c);
+    if !verdict.sound {
+        return Gate {
+            answer: Answer {
+                code: 237,
+                place: 0,
+            },
+            last: 0,
         };
     }
-    Answer { code: 0, place: 0 }
+    Gate {
+        answer: Answer { code: 0, place: 0 },
+        last: verdict.last,
+    }
 }
 
 // ---- writing entries
@@ -455,4 +501,212 @@ fn put_entry(journal: &mut [u8], at: usize, kind: u8, body: &[u8])
 {
     let e = at + (body.len() + 4);
     write_entry(&mut journal[at..e], kind, body);
+}
+
+// ---- amounts and counts
+
+// The amount in field 16 or 17 of a record; 0 where there is none.
+fn amount(rec: &[u8], field: usize) -> Hellers
+    ensures { λ r. ⌜ (r .0 ≡ amountIn (readMoney (fieldOf (now (rec .entry)) field))) × (r .0 < 100000000000) ⌝ }
+{
+    match fields::read_money(layout::field(rec, field)) {
+        MoneyReading::Absent => Hellers(0),
+        MoneyReading::Value(h) => h,
+        MoneyReading::Malformed => Hellers(0),
+    }
+}
+
+fn more(a: Hellers, b: Hellers) -> Hellers
+    requires { ⌜ a .0 + b .0 < 1000000000000000 ⌝ }
+    ensures { λ r. ⌜ r .0 ≡ a .0 + b .0 ⌝ }
+{
+    match a.plus(b) {
+        Sum::Total(c) => c,
+        Sum::TooLarge => a,
+    }
+}
+
+fn less(a: Hellers, b: Hellers) -> Hellers
+    ensures { λ r. ⌜ r .0 ≡ a .0 - b .0 ⌝ }
+{
+    if b.0 <= a.0 {
+        Hellers(a.0 - b.0)
+    } else {
+        Hellers(0)
+    }
+}
+
+impl Counts {
+    fn none() -> Self
+        ensures { λ r. ⌜ r ≡ noCounts ⌝ }
+    {
+        let totals = Totals {
+            live: 0,
+            cancelled: 0,
+            cash: Hellers(0),
+            price: Hellers(0),
+        };
+        Counts {
+            totals,
+            held: 0,
+            used: 0,
+        }
+    }
+
+    // One live more, with its two amounts.
+    fn one_live_more(self, cash: Hellers, price: Hellers) -> Self
+        requires { ⌜ (Small (self .totals)) × (self .held ≤ 999) × (cash .0 < 100000000000) × (price .0 < 100000000000) ⌝ }
+        ensures { λ r. ⌜ r ≡ countsOf (oneLiveMore (self .totals) (cash .0) (price .0)) (self .held + 1) (self .used) ⌝ }
+    {
+        let t = self.totals;
+        let d = t.cash;
+        let p = t.price;
+        let totals = Totals {
+            live: t.live + 1,
+            cancelled: t.cancelled,
+            cash: more(d, cash),
+            price: more(p, price),
+        };
+        Counts {
+            totals,
+            held: self.held + 1,
+            used: self.used,
+        }
+    }
+
+    // One live consignment cancelled: its two amounts leave the sums.
+    fn one_cancelled(self, cash: Hellers, price: Hellers) -> Self
+        requires { ⌜ Small (self .totals) ⌝ }
+        ensures { λ r. ⌜ r ≡ countsOf (oneCancelled (self .totals) (cash .0) (price .0)) (self .held) (self .used) ⌝ }
+    {
+        let t = self.totals;
+        let d = t.cash;
+        let p = t.price;
+        let totals = Totals {
+            live: one_less(t.live),
+            cancelled: t.cancelled + 1,
+            cash: less(d, cash),
+            price: less(p, price),
+        };
+        Counts {
+            totals,
+            held: self.held,
+            used: self.used,
+        }
+    }
+
+    // The amounts of one consignment replaced by others.
+    fn amounts_replaced(
+        self,
+        old_cash: Hellers,
+        old_price: Hellers,
+        cash: Hellers,
+        price: Hellers,
+    ) -> Self
+        requires { ⌜ (Small (self .totals)) × (cash .0 < 100000000000) × (price .0 < 100000000000) ⌝ }
+        ensures { λ r. ⌜ r ≡ countsOf (amountsReplaced (self .totals) («old_cash» .0) («old_price» .0) (cash .0) (price .0)) (self .held) (self .used) ⌝ }
+    {
+        let t = self.totals;
+        let d = t.cash;
+        let p = t.price;
+        let totals = Totals {
+            live: t.live,
+            cancelled: t.cancelled,
+            cash: more(less(d, old_cash), cash),
+            price: more(less(p, old_price), price),
+        };
+        Counts {
+            totals,
+            held: self.held,
+            used: self.used,
+        }
+    }
+
+    // The journal grown by an entry.
+    fn journal_grown(self, n: usize) -> Self
+        requires { ⌜ self .used + n < 2000000 ⌝ }
+        ensures { λ r. ⌜ r ≡ countsOf (self .totals) (self .held) (self .used + n) ⌝ }
+    {
+        let totals = self.totals;
+        Counts {
+            totals,
+            held: self.held,
+            used: self.used + n,
+        }
+    }
+}
+
+fn one_less(n: u64) -> u64
+    ensures { λ r. ⌜ r ≡ n - 1 ⌝ }
+{
+    if n == 0 { 0 } else { n - 1 }
+}
+
+// The counts behind an acceptable action, from the file before it.
+fn counts_after(file: &[u8], c: Counts, kind: u8, body: &[u8]) -> Counts
+    requires { ⌜ Countable (now file) c kind (now body) ⌝ }
+    ensures { λ r. ⌜ r ≡ countsAfter (now (file .entry)) c kind (now (body .entry)) ⌝ }
+{
+    let held = c.held;
+    if kind == 1 {
+        let more = c.one_live_more(amount(body, 16), amount(body, 17));
+        return more.journal_grown(403);
+    }
+    if kind == 3 {
+        let k = seek(file, layout::field(body, 1), held) - 1;
+        let a = k * 401;
+        let e = a + 399;
+        let old_cash = amount(&file[a..e], 16);
+        let old_price = amount(&file[a..e], 17);
+        let amended = c.amounts_replaced(old_cash, old_price, amount(body, 16), amount(body, 17));
+        return amended.journal_grown(403);
+    }
+    let k = seek(file, body, held) - 1;
+    let a = k * 401;
+    let e = a + 399;
+    let cash = amount(&file[a..e], 16);
+    let price = amount(&file[a..e], 17);
+    let fewer = c.one_cancelled(cash, price);
+    fewer.journal_grown(body_length(kind) + 4)
+}
+
+// ---- the calls
+
+// The work of an action on a batch that passed the test: 236, its own refusals, 231, or else file, journal and counts go on.
+fn enter(file: &mut [u8], journal: &mut [u8], c: Counts, kind: u8, body: &[u8]) -> Outcome
+    requires { ⌜ Passed (now file) (now journal) c ⌝ }
+    ensures { λ r. ⌜ Worked (now (file .entry)) (now (journal .entry)) c kind (now (body .entry)) r (now (file .exit)) (now (journal .exit)) ⌝ }
+{
+    let held = c.held;
+    let used = c.used;
+    let size = body_length(kind);
+    if body.len() != size {
+        return Outcome {
+            answer: Answer {
+                code: 236,
+                place: 0,
+            },
+            counts: c,
+        };
+    }
+    let answer = action_answer(file, held, kind, body);
+    if answer.code != 0 {
+        return Outcome { answer, counts: c };
+    }
+    if journal.len() - used < size + 4 {
+        return Outcome {
+            answer: Answer {
+                code: 231,
+                place: 0,
+            },
+            counts: c,
+        };
+    }
+    let counts = counts_after(file, c, kind, body);
+    act(file, held, kind, body);
+    put_entry(journal, used, kind, body);
+    Outcome {
+        answer: Answer { code: 0, place: 0 },
+        counts,
+    }
 }

@@ -6,17 +6,26 @@ use borrow.Author.Needs.{needs}
 use Rattle.batch.proofs.verify_with.Statement.{statement}
 use Rattle.batch.proofs.verify_with.Tie as tie
 
+unsound-requires : tie.Need-unsound-requires
+unsound-requires c κs = search needs
+
 returns : tie.Need-returns
 returns c = search used-past
 
 replay-requires : tie.Need-replay-requires
 replay-requires c κs = search needs
 
+unsound-requires-2 : tie.Need-unsound-requires-2
+unsound-requires-2 c κs = search needs
+
 same-length : tie.Need-same-length
 same-length c = search needs
 
 returns-2 : tie.Need-returns-2
 returns-2 c = search walk-bad
+
+unsound-requires-3 : tie.Need-unsound-requires-3
+unsound-requires-3 c κs = search needs
 
 same-length-2 : tie.Need-same-length-2
 same-length-2 c = search needs
@@ -27,6 +36,9 @@ returns-3 c = search held-other
 same-requires : tie.Need-same-requires
 same-requires c κs = search needs
 
+unsound-requires-4 : tie.Need-unsound-requires-4
+unsound-requires-4 c κs = search needs
+
 same-length-3 : tie.Need-same-length-3
 same-length-3 c = search needs
 
@@ -35,6 +47,9 @@ returns-4 c = search file-other
 
 zero-from-requires : tie.Need-zero-from-requires
 zero-from-requires c κs = search needs
+
+unsound-requires-5 : tie.Need-unsound-requires-5
+unsound-requires-5 c κs = search needs
 
 same-length-4 : tie.Need-same-length-4
 same-length-4 c = search needs
@@ -58,16 +73,21 @@ pub verify-with-spec : {M : Type 1} → statement M
 verify-with-spec =
     tie.close
     (tie.spec
+    unsound-requires
     returns
     replay-requires
+    unsound-requires-2
     same-length
     returns-2
+    unsound-requires-3
     same-length-2
     returns-3
     same-requires
+    unsound-requires-4
     same-length-3
     returns-4
     zero-from-requires
+    unsound-requires-5
     same-length-4
     returns-5
     totals-over-requires
