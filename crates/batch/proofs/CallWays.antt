@@ -64,3 +64,89 @@ module _ (file journal body : List ℕ) (c : Counts) (kind n : ℕ) (pre : Passe
         let fits : c .used + (n + 4) ≤ length journal = omega (arith, pre .ready .within) in
         let e : entryAnswer here kind body ≡ accepted = rw (← en .0, eq-eqb (length body) n long, ← ea, eq-eqb (a .code) 0 z, le-leb (c .used + (n + 4)) (length journal) fits) in
         record { answers = sym e; leaves = rw (e, ec, ef, ej) }
+
+-- ---- the lengths
+lengths-bounded : (n m : ℕ) → rightLengths n m ≡ true → (n ≤ 400599) × (m ≤ 1048576)
+unfolding rightLengths
+lengths-bounded n m t =
+    let p = and-eq-true-iff (eqb (n % 401) 0 && leb 401 n && leb n 400599 && leb 403 m) (leb m 1048576) .0 t in
+    let q = and-eq-true-iff (eqb (n % 401) 0 && leb 401 n && leb n 400599) (leb 403 m) .0 (p .0) in
+    (leb-true n 400599 (and-eq-true-iff (eqb (n % 401) 0 && leb 401 n) (leb n 400599) .0 (q .0) .1), leb-true m 1048576 (p .1))
+
+-- ---- behind the guard
+module _ (file journal : List ℕ) (c : Counts) (g : Gate) (eg : Guarded file journal c g) where
+  abbrev this : Batch
+  this = batchOf file journal c
+
+  pub guard-passes : g .answer .code ≡ 0 → Passed file journal c
+  guard-passes z =
+      let b = lengths-bounded (length file) (length journal) (eg .lengths z) in
+      record { ready = eg .ready z; bounded = b .0; room = b .1 }
+
+  sound-so : g .answer .code ≡ 0 → sound this ≡ true
+  sound-so z = go (sound this) refl
+    where
+      go : (t : Bool) → sound this ≡ t → t ≡ true
+      go true e = refl
+      go false e =
+          let says : g .answer ≡ answer 237 0 = eg .says ∙ rw (eg .lengths z, e) in
+          let q : _≡_ {A = ℕ} 237 0 = sym (ap (λ (x : Answer). x .code) says) ∙ z in
+          absurd (omega arith)
+
+  module _ (call : Call) (er : ready this call ≡ sound this) (ek : kept this call ≡ this) where
+    called-as : (a : Answer) → answerTo this call ≡ a → (a .code ≡ 0 → ⊥) → Called this call a c file journal
+    unfolding after
+    called-as a e z = record {
+      answers = sym e;
+      counted = rw (e, ne-eqb (a .code) 0 z, ek);
+      filed = rw (e, ne-eqb (a .code) 0 z, ek);
+      entered = rw (e, ne-eqb (a .code) 0 z, ek);
+    }
+
+    pub guard-refuses : (g .answer .code ≡ 0 → ⊥) → Called this call (g .answer) c file journal
+    unfolding answerTo
+    guard-refuses z = called-as (g .answer) (sym (go (rightLengths (length file) (length journal)) (sound this) refl refl)) z
+      where
+        go : (p q : Bool) → rightLengths (length file) (length journal) ≡ p → sound this ≡ q
+            → g .answer ≡ cond (rightLengths (length file) (length journal)) (cond (ready this call) (workAnswer this call) (answer 237 0)) (answer 235 0)
+        go false q ep eq = eg .says ∙ rw ep
+        go true false ep eq = eg .says ∙ rw (ep, er, eq)
+        go true true ep eq = let says : g .answer ≡ accepted = eg .says ∙ rw (ep, eq) in absurd (z (ap (λ (x : Answer). x .code) says))
+
+    answer-work : g .answer .code ≡ 0 → answerTo this call ≡ workAnswer this call
+    unfolding answerTo
+    answer-work z = rw (eg .lengths z, er, sound-so z)
+
+    pub work-done : (kind : ℕ) (body : List ℕ) (r : Outcome) (file′ journal′ : List ℕ) → workAnswer this call ≡ entryAnswer this kind body → done this call ≡ entered this kind body
+        → g .answer .code ≡ 0 → Worked file journal c kind body r file′ journal′ → Called this call (r .answer) (r .counts) file′ journal′
+    unfolding after
+    work-done kind body r file′ journal′ ew ed z w =
+        let e : answerTo this call ≡ entryAnswer this kind body = answer-work z ∙ ew in
+        let same : batchOf file′ journal′ (r .counts) ≡ after this call = w .leaves ∙ rw (e, ed, ek) in
+        record {
+          answers = w .answers ∙ sym e;
+          counted = ap (λ (x : Batch). x .counts) same;
+          filed = ap (λ (x : Batch). x .file) same;
+          entered = ap (λ (x : Batch). x .journal) same;
+        }
+
+-- ---- open
+pub open-refused : (file journal : List ℕ) (k : Counts) (b : Bool) → k ≡ noCounts → b ≡ rightLengths (length file) (length journal) → not b ≡ true
+    → Called (batchOf file journal noCounts) Open (answer 235 0) k file journal
+unfolding answerTo after
+open-refused file journal k b ek e n = record {
+  answers = rw (← e, not-true b n);
+  counted = ek ∙ rw (← e, not-true b n);
+  filed = rw (← e, not-true b n);
+  entered = rw (← e, not-true b n);
+}
+
+pub open-done : (file journal file′ journal′ : List ℕ) (k : Counts) (b : Bool) → k ≡ noCounts → b ≡ rightLengths (length file) (length journal) → not b ≡ false
+    → file′ ≡ zeros (length file) → journal′ ≡ zeros (length journal) → Called (batchOf file journal noCounts) Open accepted k file′ journal′
+unfolding answerTo after
+open-done file journal file′ journal′ k b ek e n ef ej = record {
+  answers = rw (← e, not-false b n);
+  counted = ek ∙ rw (← e, not-false b n);
+  filed = ef ∙ rw (← e, not-false b n);
+  entered = ej ∙ rw (← e, not-false b n);
+}

@@ -74,7 +74,7 @@ module _ (scratch file journal : List ℕ) (c : Counts) (pre : (length scratch �
 
     module _ (h : w .held ≡ c .held) (s : Bool) (es : s ≡ sameBytes made file) where
       pub holds-so : (c .held ≤ 999) × (c .held * 401 ≤ length file)
-      holds-so = let q = p .holds (not-false (w .good) g) in (rw (← h) (q .0), rw (← h, ← pre .0) (q .1))
+      holds-so = let q = p .holds in (rw (← h) (q .0), rw (← h, ← pre .0) (q .1))
 
       pub file-other : (r : Verdict) → r .sound ≡ false → not s ≡ true → Verified file journal c r
       unfolding sound

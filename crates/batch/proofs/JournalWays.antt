@@ -174,7 +174,7 @@ entry-fits j end at k ek n = rw ek (go (startsEntry j end at 1) (startsEntry j e
 module _ (file journal : List ℕ) (end held used k : ℕ) (ek : k ≡ kindAt journal end used) where
   pub no-entry : k ≡ 0 → Stepped file journal end held used (record { good = false; held = held; used = used; last = used }) file
   unfolding stepAs
-  no-entry z = record { walks = rw (← ek, eq-eqb k 0 z); files = rw (← ek, eq-eqb k 0 z); from = refl; moves = λ g. absurd (clash false g refl) }
+  no-entry z = record { walks = rw (← ek, eq-eqb k 0 z); files = rw (← ek, eq-eqb k 0 z); from = refl; moves = λ g. absurd (clash false g refl); stays = λ g. refl }
 
   module _ (some : k ≡ 0 → ⊥) (n : ℕ) (en : (n ≡ bodyLength k) × (13 ≤ n) × (n ≤ 399)) where
     -- what the code takes for the body
@@ -190,7 +190,7 @@ module _ (file journal : List ℕ) (end held used k : ℕ) (ek : k ≡ kindAt jo
 
       pub entry-refused : (a .code ≡ 0 → ⊥) → Stepped file journal end held used (record { good = false; held = held; used = used; last = used }) file
       unfolding stepAs
-      entry-refused z = record { walks = rw (← ek, ne-eqb k 0 some, here, ne-eqb (a .code) 0 z); files = rw (← ek, ne-eqb k 0 some, here, ne-eqb (a .code) 0 z); from = refl; moves = λ g. absurd (clash false g refl) }
+      entry-refused z = record { walks = rw (← ek, ne-eqb k 0 some, here, ne-eqb (a .code) 0 z); files = rw (← ek, ne-eqb k 0 some, here, ne-eqb (a .code) 0 z); from = refl; moves = λ g. absurd (clash false g refl); stays = λ g. refl }
 
       pub entry-acceptable : a .code ≡ 0 → Stepping file journal end held used → Acceptable file held k (take (used + 4 + n - (used + 4)) (drop (used + 4) journal))
       entry-acceptable z pre =
@@ -204,7 +204,7 @@ module _ (file journal : List ℕ) (end held used k : ℕ) (ek : k ≡ kindAt jo
       entry-done t h z pre et eh =
           let file-is : t ≡ actionFile file held k (bodyAt journal used k) = et ∙ ap (actionFile file held k) body-is in
           let next : used + 4 + n ≡ used + entryLength k = omega (arith, en .0) in
-          record { walks = rw (← ek, ne-eqb k 0 some, here, eq-eqb (a .code) 0 z, next, eh); files = rw (← ek, ne-eqb k 0 some, here, eq-eqb (a .code) 0 z) file-is; from = refl; moves = λ g. moved }
+          record { walks = rw (← ek, ne-eqb k 0 some, here, eq-eqb (a .code) 0 z, next, eh); files = rw (← ek, ne-eqb k 0 some, here, eq-eqb (a .code) 0 z) file-is; from = refl; moves = λ g. moved; stays = λ g. absurd (clash true refl g) }
         where
           moved : Moved file end used (record { good = true; held = h; used = used + 4 + n; last = used })
           moved =

@@ -107,11 +107,8 @@ module _ (journal : List ℕ) (end : ℕ) (file₀ cleared file : List ℕ) (hel
         walks = sym (ap (λ (x : Run). x .walk) e);
         files = sym (ap (λ (x : Run). x .file) e);
         back = omega (arith, s .from, l);
-        holds = λ y. absurd (no-both (r .good) y bad);
+        holds = (rw (s .stays bad) (g .few), rw (s .stays bad, ← size) (g .fits));
       }
-    where
-      no-both : (b : Bool) → b ≡ true → b ≡ false → ⊥
-      no-both b p q = let z : _≡_ {A = ℕ} 0 1 = cc in omega arith
 
   pub replay-ends : end ≤ used → Replayed file₀ journal end (record { good = true; held = held; used = used; last = last }) file
   replay-ends h =
@@ -120,7 +117,7 @@ module _ (journal : List ℕ) (end : ℕ) (file₀ cleared file : List ℕ) (hel
         walks = sym (ap (λ (x : Run). x .walk) e);
         files = sym (ap (λ (x : Run). x .file) e);
         back = g .back;
-        holds = λ y. (g .few, rw (← size) (g .fits));
+        holds = (g .few, rw (← size) (g .fits));
       }
 
 -- ---- zero_from

@@ -1,7 +1,7 @@
 -- What private functions ask of their callers, by name.
 -- Assumes nothing.
 use Prim.Native.Nat.{ℕ, _*_, _≤_, _<_}
-use mathlib.Core.Bool.{true}
+use mathlib.Core.Bool.{true, false}
 use mathlib.Core.Path.{_≡_}
 use mathlib.Core.List.{List}
 use lib.ListN.{length}
@@ -41,10 +41,11 @@ pub record Stepped (file journal : List ℕ) (end held used : ℕ) (r : Walk) (a
   pub files : after ≡ stepOf file journal end held used .file
   pub from : r .last ≡ used
   pub moves : r .good ≡ true → Moved file end used r
+  pub stays : r .good ≡ false → r .held ≡ held
 
 -- what a replay gives, beside its walk and file: where it may go on
 pub record Replayed (file journal : List ℕ) (end : ℕ) (r : Walk) (after : List ℕ) : Type 0 where
   pub walks : r ≡ rebuilt (length file) journal end .walk
   pub files : after ≡ rebuilt (length file) journal end .file
   pub back : r .last ≤ end
-  pub holds : r .good ≡ true → (r .held ≤ 999) × (r .held * 401 ≤ length file)
+  pub holds : (r .held ≤ 999) × (r .held * 401 ≤ length file)

@@ -13,7 +13,7 @@ ghost use Rattle.batch.specs.Actions.{seek, liveAnswer, addAnswer, amend
 ghost use Rattle.batch.specs.Journal.{bodyLength, head, entry, headStands, kindAt};
 ghost use Rattle.batch.specs.Duties.{Acceptable, Stepping, Stepped, Replayed};
 ghost use Rattle.batch.specs.Guards.{Verified, Guarded, Countable, countsAfter, Passed, Worked};
-ghost use Rattle.batch.specs.Batch.{isZero, sameTotals, rightLengths, countsOf, noCounts};
+ghost use Rattle.batch.specs.Batch.{isZero, sameTotals, rightLengths, countsOf, noCounts, batchOf, Open, Add, Amend, Cancel, Undo, Called};
 use fields::Hellers;
 use fields::MoneyReading;
 use fields::Sum;
@@ -709,4 +709,59 @@ fn enter(file: &mut [u8], journal: &mut [u8], c: Counts, kind: u8, body: &[u8]) 
         answer: Answer { code: 0, place: 0 },
         counts,
     }
+}
+
+// Sets both buffers to zero and gives zero counts.
+pub fn open(file: &mut [u8], journal: &mut [u8]) -> Outcome
+    ensures { λ r. ⌜ Called (batchOf (now (file .entry)) (now (journal .entry)) noCounts) Open (r .answer) (r .counts) (now (file .exit)) (now (journal .exit)) ⌝ }
+{
+    let counts = Counts::none();
+    if !right_lengths(file.len(), journal.len()) {
+        return Outcome {
+            answer: Answer {
+                code: 235,
+                place: 0,
+            },
+            counts,
+        };
+    }
+    text::fill(file, 0);
+    text::fill(journal, 0);
+    Outcome {
+        answer: Answer { code: 0, place: 0 },
+        counts,
+    }
+}
+
+pub fn add(file: &mut [u8], journal: &mut [u8], c: Counts, rec: &[u8]) -> Outcome
+    ensures { λ r. ⌜ Called (batchOf (now (file .entry)) (now (journal .entry)) c) (Add (now (rec .entry))) (r .answer) (r .counts) (now (file .exit)) (now (journal .exit)) ⌝ }
+{
+    let gate = guard(file, journal, c);
+    let answer = gate.answer;
+    if answer.code != 0 {
+        return Outcome { answer, counts: c };
+    }
+    enter(file, journal, c, 1, rec)
+}
+
+pub fn amend(file: &mut [u8], journal: &mut [u8], c: Counts, rec: &[u8]) -> Outcome
+    ensures { λ r. ⌜ Called (batchOf (now (file .entry)) (now (journal .entry)) c) (Amend (now (rec .entry))) (r .answer) (r .counts) (now (file .exit)) (now (journal .exit)) ⌝ }
+{
+    let gate = guard(file, journal, c);
+    let answer = gate.answer;
+    if answer.code != 0 {
+        return Outcome { answer, counts: c };
+    }
+    enter(file, journal, c, 3, rec)
+}
+
+pub fn cancel(file: &mut [u8], journal: &mut [u8], c: Counts, id: &[u8]) -> Outcome
+    ensures { λ r. ⌜ Called (batchOf (now (file .entry)) (now (journal .entry)) c) (Cancel (now (id .entry))) (r .answer) (r .counts) (now (file .exit)) (now (journal .exit)) ⌝ }
+{
+    let gate = guard(file, journal, c);
+    let answer = gate.answer;
+    if answer.code != 0 {
+        return Outcome { answer, counts: c };
+    }
+    enter(file, journal, c, 2, id)
 }
