@@ -7,18 +7,23 @@ use mathlib.Core.List.{List, [], _∷_, _++_}
 use native.Mathlib.Omega.{arith}
 use borrow.Author.Tests.{eq-eqb, ne-eqb, le-leb, lt-leb, leb-true, not-true, not-false}
 use lib.Dec.{eqb, leb}
-use lib.ListN.{length}
+use borrow.Rule.Slice.PartMut.{putMid, mid-len}
+use lib.ListN.{length, take, drop, length-replicate}
 use Rattle.text.specs.declared.Answer.{Answer}
 use Rattle.text.specs.Answers.{answer, accepted}
 use Rattle.text.specs.Lists.{overlay}
+use Rattle.text.proofs.Lists.{put-is}
 use Rattle.record.specs.Columns.{orElse}
+use Rattle.posting.specs.declared.Totals.{Totals}
+use Rattle.posting.specs.File.{totalsOver}
 use Rattle.batch.specs.declared.Counts.{Counts}
 use Rattle.batch.specs.declared.Gate.{Gate}
 use Rattle.batch.specs.declared.Outcome.{Outcome}
+use Rattle.batch.specs.declared.Walk.{Walk}
 use Rattle.batch.specs.Actions.{actionAnswer, actionFile}
-use Rattle.batch.specs.Journal.{bodyLength, entryLength, entry, zeros}
-use Rattle.batch.specs.Duties.{Acceptable}
-use Rattle.batch.specs.Batch.{Batch, batchOf, Call, Open, Add, Amend, Cancel, Undo, rightLengths, sound, ready, entryAnswer, workAnswer, answerTo, entered, after, done, kept, noCounts, Called}
+use Rattle.batch.specs.Journal.{bodyLength, entryLength, entry, zeros, rebuilt}
+use Rattle.batch.specs.Duties.{Acceptable, Replayed}
+use Rattle.batch.specs.Batch.{Batch, batchOf, Call, Open, Add, Amend, Cancel, Undo, rightLengths, sound, ready, entryAnswer, workAnswer, answerTo, entered, undone, latest, after, done, kept, noCounts, Called}
 use Rattle.batch.specs.Guards.{Ready, Guarded, Countable, countsAfter, Passed, Worked}
 use Rattle.batch.proofs.ReplayWays.{small-so-far}
 
@@ -150,3 +155,39 @@ open-done file journal file′ journal′ k b ek e n ef ej = record {
   filed = ef ∙ rw (← e, not-false b n);
   entered = ej ∙ rw (← e, not-false b n);
 }
+
+-- ---- undo
+pub entry-cleared : (journal part : List ℕ) (last used : ℕ) → (last ≤ used) × (used ≤ length journal) → part ≡ zeros (length (take (used - last) (drop last journal)))
+    → putMid last (used - last) journal part ≡ overlay journal last (zeros (used - last))
+entry-cleared journal part last used pre e =
+    let wide : length (take (used - last) (drop last journal)) ≡ used - last = mid-len last used journal (pre .1) in
+    let whole : part ≡ zeros (used - last) = e ∙ ap zeros wide in
+    let size : length (zeros (used - last)) ≡ used - last = length-replicate (used - last) 0 in
+    let back : last + (used - last) ≡ used = omega arith in
+    put-is last used journal part (pre .0) (pre .1) ∙ rw (whole, size, back)
+
+module _ (file journal : List ℕ) (c : Counts) (g : Gate) (eg : Guarded file journal c g) (z : g .answer .code ≡ 0) where
+  pub undo-none : c .used ≡ 0 → Called (batchOf file journal c) Undo (answer 234 0) c file journal
+  undo-none e =
+      called-as file journal c g eg Undo refl refl (answer 234 0)
+      (answer-work file journal c g eg Undo refl refl z ∙ rw (eq-eqb (c .used) 0 e)) (λ q. omega (arith, q))
+
+  pub undo-reach : (g .last ≤ c .used) × (c .used ≤ length journal)
+  undo-reach = (omega (arith, eg .finds z, eg .ready z .back), eg .ready z .within)
+
+  pub undo-done : (w : Walk) (made journal′ : List ℕ) (t : Totals) → (c .used ≡ 0 → ⊥) → Replayed file journal (g .last) w made → t ≡ totalsOver made (w .held)
+      → journal′ ≡ overlay journal (g .last) (zeros (c .used - g .last))
+      → Called (batchOf file journal c) Undo accepted (record { totals = t; held = w .held; used = g .last }) made journal′
+  unfolding after undone
+  undo-done w made journal′ t n p et ej =
+      let e : answerTo (batchOf file journal c) Undo ≡ accepted = answer-work file journal c g eg Undo refl refl z ∙ rw (ne-eqb (c .used) 0 n) in
+      let at : latest (batchOf file journal c) ≡ g .last = sym (eg .finds z) in
+      let files : rebuilt (length file) journal (latest (batchOf file journal c)) .file ≡ made = rw at (sym (p .files)) in
+      let walks : rebuilt (length file) journal (latest (batchOf file journal c)) .walk ≡ w = rw at (sym (p .walks)) in
+      let same : undone (batchOf file journal c) ≡ batchOf made journal′ (record { totals = t; held = w .held; used = g .last }) = rw (files, walks, at, ej, et) in
+      record {
+        answers = sym e;
+        counted = rw e (ap (λ (x : Batch). x .counts) (sym same));
+        filed = rw e (ap (λ (x : Batch). x .file) (sym same));
+        entered = rw e (ap (λ (x : Batch). x .journal) (sym same));
+      }

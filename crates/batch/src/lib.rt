@@ -10,7 +10,7 @@ ghost use Rattle.fields.specs.Amounts.{readMoney};
 ghost use Rattle.posting.specs.Bounds.{Small};
 ghost use Rattle.posting.specs.File.{amountIn, totalsOver};
 ghost use Rattle.batch.specs.Actions.{seek, liveAnswer, addAnswer, amendAnswer, cancelAnswer, lineOf, withLine, withCancelled, actionAnswer, actionFile, actionHeld, oneLiveMore, oneCancelled, amountsReplaced};
-ghost use Rattle.batch.specs.Journal.{bodyLength, head, entry, headStands, kindAt};
+ghost use Rattle.batch.specs.Journal.{bodyLength, head, entry, headStands, kindAt, zeros};
 ghost use Rattle.batch.specs.Duties.{Acceptable, Stepping, Stepped, Replayed};
 ghost use Rattle.batch.specs.Guards.{Verified, Guarded, Countable, countsAfter, Passed, Worked};
 ghost use Rattle.batch.specs.Batch.{isZero, sameTotals, rightLengths, countsOf, noCounts, batchOf, Open, Add, Amend, Cancel, Undo, Called};
@@ -764,4 +764,46 @@ pub fn cancel(file: &mut [u8], journal: &mut [u8], c: Counts, id: &[u8]) -> Outc
         return Outcome { answer, counts: c };
     }
     enter(file, journal, c, 2, id)
+}
+
+// Zeroes the journal from `last` up to `used`.
+fn clear_entry(journal: &mut [u8], last: usize, used: usize)
+    requires { ⌜ (last ≤ used) × (used ≤ length (now journal)) ⌝ }
+    ensures { λ _. ⌜ now (journal .exit) ≡ overlay (now (journal .entry)) last (zeros (used - last)) ⌝ }
+{
+    text::fill(&mut journal[last..used], 0);
+}
+
+// Takes the latest entry off the journal and brings back file and counts.
+pub fn undo(file: &mut [u8], journal: &mut [u8], c: Counts) -> Outcome
+    ensures { λ r. ⌜ Called (batchOf (now (file .entry)) (now (journal .entry)) c) Undo (r .answer) (r .counts) (now (file .exit)) (now (journal .exit)) ⌝ }
+{
+    let gate = guard(file, journal, c);
+    let answer = gate.answer;
+    if answer.code != 0 {
+        return Outcome { answer, counts: c };
+    }
+    let used = c.used;
+    if used == 0 {
+        return Outcome {
+            answer: Answer {
+                code: 234,
+                place: 0,
+            },
+            counts: c,
+        };
+    }
+    let last = gate.last;
+    let w = replay(file, journal, last);
+    let held = w.held;
+    let totals = totals_over(file, held);
+    clear_entry(journal, last, used);
+    Outcome {
+        answer: Answer { code: 0, place: 0 },
+        counts: Counts {
+            totals,
+            held,
+            used: last,
+        },
+    }
 }
