@@ -2,12 +2,12 @@
 -- Assumes nothing.
 use Prim.Native.Nat.{ℕ, suc, _+_, _-_, _≤_, _<_}
 use mathlib.Core.Path.{_≡_, refl, sym, ap, _∙_}
-use mathlib.Core.Bool.{true, false}
+use mathlib.Core.Bool.{Bool, true, false}
 use mathlib.Core.List.{List, [], _∷_, _++_, append-assoc}
 use native.Mathlib.Nat.{add-assoc, add-zero}
 use native.Mathlib.Numerals.{add-one}
 use native.Mathlib.Omega.{arith}
-use borrow.Author.Tests.{lt-ltb, le-ltb, le-leb, lt-leb}
+use borrow.Author.Tests.{lt-ltb, le-ltb, le-leb, lt-leb, leb-true}
 use borrow.Rule.Slice.PartMut.{putMid}
 use lib.Dec.{leb}
 use lib.ListN.{length, getD, take, drop, set, length-append, length-drop, take-append-drop}
@@ -141,6 +141,21 @@ module _ (a : FileAnswer) (ns s : List ℕ) (n : ℕ) (en : ns ≡ numbersOf a) 
 
 pub report-of : (a a′ : FileAnswer) (s s′ : List ℕ) (r : Reported) → a′ ≡ a → Report a′ s r s′ → Report a s r s′
 report-of a a′ s s′ r e p = rw e at p
+
+-- what a caller needs to take the line off the buffer's front
+pub report-within : (a : FileAnswer) (s t : List ℕ) (r : Reported) → Report a s r t → r .length ≤ length t
+report-within a s t r p = go (leb (length (reportOf a)) (length s)) refl
+  where
+    go : (b : Bool) → leb (length (reportOf a)) (length s) ≡ b → r .length ≤ length t
+    go true e =
+        let fits = leb-true (length (reportOf a)) (length s) e in
+        let bytes-are : t ≡ overlay s 0 (reportOf a) = rw e at (p .bytes) in
+        let count : r .length ≡ length (reportOf a) = rw e at (p .counts) in
+        omega (arith, ap length bytes-are, length-overlay s (reportOf a) 0 (omega arith))
+    go false e = let none : r .length ≡ 0 = rw e at (p .counts) in omega arith
+
+pub report-front : (a : FileAnswer) (s t : List ℕ) (r : Reported) → Report a s r t → r .length ≡ length (take (r .length) t)
+report-front a s t r p = sym (length-take-le (r .length) t (report-within a s t r p))
 
 -- ---- check_input
 pub input-long : (input : List ℕ) (r : FileAnswer) → 64160 < length input → r ≡ refused 213 0 0 → r ≡ inputAnswer input
