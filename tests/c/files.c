@@ -125,6 +125,20 @@ static void ask_repeated(uint8_t *file, unsigned records, unsigned earlier)
     put_good_record(last, records);
 }
 
+/* The last of the most records broken, in three ways: the totals of those before it are not told. */
+static void ask_broken_last(uint8_t *file)
+{
+    const size_t length = (size_t)MOST_RECORDS * GOOD_STEP;
+    uint8_t *last = file + length - GOOD_STEP;
+    put_field(last, 15, "      ");
+    ask_refused("last record without weight", file, length, 34, MOST_RECORDS, 15);
+    put_field(last, 1, "?");
+    ask_refused("last record without identifier", file, length, 1, MOST_RECORDS, 1);
+    last[GOOD_STEP - 1] = ' ';
+    ask_refused("last record without line end", file, length, 212, MOST_RECORDS, 0);
+    put_good_record(last, MOST_RECORDS);
+}
+
 static void ask_large(uint8_t *file)
 {
     const size_t over = (size_t)(MOST_RECORDS + 1) * GOOD_STEP;
@@ -133,6 +147,7 @@ static void ask_large(uint8_t *file)
     ask_repeated(file, MOST_RECORDS, 1);
     ask_repeated(file, MOST_RECORDS, MOST_RECORDS / 2);
     ask_repeated(file, MOST_RECORDS, MOST_RECORDS - 1);
+    ask_broken_last(file);
     ask_refused("1000 records", file, over, 213, 0, 0);
     ask_refused("1000 records and a byte", file, over + 1, 211, 0, 0);
 }

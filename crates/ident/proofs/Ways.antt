@@ -50,27 +50,6 @@ pub ends-numbered : (s : List ℕ) (p : Parts) → (getD s 12 0 ≡ 90 → ⊥) 
 unfolding endsRight partsOf
 ends-numbered s p n e = rw (e, ne-eqb (getD s 12 0) 90 n)
 
--- ---- same
-pub same-not-long : (a b : List ℕ) → (length a ≡ length b → ⊥) → false ≡ sameBytes a b
-unfolding sameBytes
-same-not-long [] [] n = absurd (n refl)
-same-not-long [] (y ∷ b) n = refl
-same-not-long (x ∷ a) [] n = refl
-same-not-long (x ∷ a) (y ∷ b) n = rw (← same-not-long a b (λ e. n (ap suc e))) (sym (and-false (eqb x y)))
-
-module _ (a b : List ℕ) (i : ℕ) (r : Bool) (known : sameBytes (drop i a) (drop i b) ≡ r) (h : i < length a) (long : length a ≡ length b) where
-  pub same-differs : (getD a i 0 ≡ getD b i 0 → ⊥) → false ≡ r
-  unfolding sameBytes
-  same-differs n = rw (step a i h, step b i (omega arith), ne-eqb (getD a i 0) (getD b i 0) n) at known
-
-  pub same-on : getD a i 0 ≡ getD b i 0 → sameBytes (drop (i + 1) a) (drop (i + 1) b) ≡ r
-  unfolding sameBytes
-  same-on e = rw (step a i h, step b i (omega arith), eq-eqb (getD a i 0) (getD b i 0) e) at known
-
-pub same-ends : (a b : List ℕ) (i : ℕ) (r : Bool) → sameBytes (drop i a) (drop i b) ≡ r → length a ≤ i → length a ≡ length b → true ≡ r
-unfolding sameBytes
-same-ends a b i r known h long = rw (ended a i h, ended b i (omega arith)) at known
-
 -- ---- right
 module _ (s : List ℕ) where
   pub not-long : (length s ≡ 13 → ⊥) → false ≡ rightId s

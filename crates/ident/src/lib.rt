@@ -256,19 +256,9 @@ pub fn write(id: &mut [u8], p: Parts) -> Answer
     Answer { code: 0, place: 0 }
 }
 
-// Whether two identifiers are the same bytes.
+// Whether two identifiers are the same bytes. Everything above compares them here.
 pub fn same(a: &[u8], b: &[u8]) -> bool
     ensures { λ r. ⌜ Compared (now (a .entry)) (now (b .entry)) r ⌝ }
 {
-    if a.len() != b.len() {
-        return false;
-    }
-    let mut i = 0;
-    while i < a.len() {
-        if a[i] != b[i] {
-            return false;
-        }
-        i += 1;
-    }
-    true
+    text::same(a, b)
 }

@@ -1,22 +1,56 @@
 // What the programs that run judged vectors share: each item of a file is answered by a line on standard output.
 // The file's name goes along for what is told on standard error.
+ghost use Prim.Native.Nat.{_<_};
+ghost use lib.ListN.{length};
+ghost use Rattle.io.specs.Counts.{Counts};
 use items::Next;
 use items::Taken;
 use libc::STDERR_FILENO;
 use libc::STDOUT_FILENO;
+use posting::FileAnswer;
 use text::Answer;
 
 // What the items of a file are, and so which check answers them.
 pub enum Kind {
     Identifiers,
     Records,
+    Files,
+}
+
+// A number, and behind it a space, or a line feed if it is the last of its line.
+fn print_number(n: u64, last: bool) -> bool {
+    let behind = if last { b'\n' } else { b' ' };
+    io::print_decimal(STDOUT_FILENO, n) && io::write_all(STDOUT_FILENO, &[behind])
+}
+
+fn print_line(numbers: &[u64]) -> bool {
+    let mut i = 0;
+    while i < numbers.len() {
+        if !print_number(numbers[i], i + 1 == numbers.len()) {
+            return false;
+        }
+        i += 1;
+    }
+    true
 }
 
 fn print_answer(answer: Answer) -> bool {
-    io::print_decimal(STDOUT_FILENO, answer.code as u64)
-        && io::write_all(STDOUT_FILENO, b" ")
-        && io::print_decimal(STDOUT_FILENO, answer.place as u64)
-        && io::write_all(STDOUT_FILENO, b"\n")
+    print_line(&[answer.code as u64, answer.place as u64])
+}
+
+fn print_file_answer(answer: FileAnswer) -> bool {
+    let totals = answer.totals;
+    print_line(
+        &[
+            answer.code as u64,
+            answer.number as u64,
+            answer.place as u64,
+            totals.live,
+            totals.cancelled,
+            totals.cash.0,
+            totals.price.0,
+        ],
+    )
 }
 
 fn tell_broken(path: &[u8]) {
@@ -48,10 +82,38 @@ fn answer_record(fd: i32, size: usize, path: &[u8]) -> bool {
     is_whole(taken, path) && print_answer(record::check(&bytes[..n]))
 }
 
+// How many bytes of the buffer to ask about for a file of so many. Above 999 records of 401 bytes the length alone decides, 211 or
+// 213 by what is left over of 401. So a file too long for the buffer is answered as 1,000 records with the same bytes left over.
+fn bytes_to_ask(size: usize, bytes: &[u8]) -> usize
+    requires { ⌜ 401400 < length (now bytes) ⌝ }
+    ensures { λ r. ⌜ Counts r (now (bytes .entry)) ⌝ }
+{
+    if size < bytes.len() {
+        size
+    } else {
+        401000 + size % 401
+    }
+}
+
+fn answer_file_in(fd: i32, size: usize, path: &[u8], bytes: &mut [u8]) -> bool
+    requires { ⌜ 401400 < length (now bytes) ⌝ }
+{
+    let taken = items::take_item(fd, size, bytes);
+    let n = bytes_to_ask(size, bytes);
+    is_whole(taken, path) && print_file_answer(posting::check(&bytes[..n]))
+}
+
+// Room for 1,000 records and the most that can be left over; all of it is lent on.
+fn answer_file(fd: i32, size: usize, path: &[u8]) -> bool {
+    let mut bytes = [0u8; 401401];
+    answer_file_in(fd, size, path, &mut bytes)
+}
+
 fn answer_item(kind: Kind, fd: i32, size: usize, path: &[u8]) -> bool {
     match kind {
         Kind::Identifiers => answer_identifier(fd, size, path),
         Kind::Records => answer_record(fd, size, path),
+        Kind::Files => answer_file(fd, size, path),
     }
 }
 

@@ -2,10 +2,10 @@
 -- Assumes nothing.
 use Prim.Native.Nat.{ℕ, zero, suc, _+_, _*_, _/_, _^_, _≤_, _<_}
 use mathlib.Core.Path.{_≡_, refl, sym, ap, ap₂, _∙_}
-use mathlib.Core.Bool.{Bool, true, false, cond}
+use mathlib.Core.Bool.{Bool, true, false, cond, _&&_, and-eq-true-iff}
 use mathlib.Core.List.{List}
 use native.Mathlib.Omega.{arith}
-use borrow.Author.Tests.{lt-ltb}
+use borrow.Author.Tests.{lt-ltb, ltb-true}
 use lib.Dec.{ltb}
 use lib.ListN.{length}
 use Rattle.layout.specs.Layout.{fieldOf}
@@ -21,7 +21,7 @@ use Rattle.fields.specs.Others.{readStatus}
 use Rattle.fields.specs.Calls.{sumOf}
 use Rattle.fields.proofs.MoneyLaws.{money-exactly}
 use Rattle.posting.specs.declared.Totals.{Totals}
-use Rattle.posting.specs.Bounds.{Small}
+use Rattle.posting.specs.Bounds.{Small, isSmall, counted}
 use Rattle.posting.specs.File.{totals, noTotals, amountIn, withStatus, withRecord, totalsOver, recordAt}
 
 -- no amount has more than eleven digits
@@ -101,3 +101,29 @@ pub totals-small : (file : List ℕ) (n : ℕ) (t : Totals) → length file / 40
 totals-small file n t l h e =
     let b = totals-bounded file n in
     rw e (record { live = omega (arith, b .counts); cancelled = omega (arith, b .counts); cash = omega (arith, b .cash); price = omega (arith, b .price) })
+
+-- ---- count_record
+pub small-by : (t : Totals) → isSmall t ≡ true → Small t
+small-by t h =
+    let a = and-eq-true-iff (ltb (t .live) 1000 && ltb (t .cancelled) 1000 && ltb (t .cash .0) 100000000000000) (ltb (t .price .0) 100000000000000) .0 h in
+    let b = and-eq-true-iff (ltb (t .live) 1000 && ltb (t .cancelled) 1000) (ltb (t .cash .0) 100000000000000) .0 (a .0) in
+    let c = and-eq-true-iff (ltb (t .live) 1000) (ltb (t .cancelled) 1000) .0 (b .0) in
+    record {
+      live = ltb-true (t .live) 1000 (c .0);
+      cancelled = ltb-true (t .cancelled) 1000 (c .1);
+      cash = ltb-true (t .cash .0) 100000000000000 (b .1);
+      price = ltb-true (t .price .0) 100000000000000 (a .1);
+    }
+
+pub counted-small : (t r : Totals) (rec : List ℕ) → isSmall t ≡ true → r ≡ withRecord t rec → r ≡ counted t rec
+unfolding counted
+counted-small t r rec h e = rw h e
+
+pub counted-large : (t : Totals) (rec : List ℕ) → isSmall t ≡ false → t ≡ counted t rec
+unfolding counted
+counted-large t rec h = rw h
+
+-- totals that are small are counted
+pub counts-small : (t : Totals) (rec : List ℕ) → Small t → counted t rec ≡ withRecord t rec
+unfolding counted
+counts-small t rec s = rw (lt-ltb (t .live) 1000 (s .live), lt-ltb (t .cancelled) 1000 (s .cancelled), lt-ltb (t .cash .0) 100000000000000 (s .cash), lt-ltb (t .price .0) 100000000000000 (s .price))

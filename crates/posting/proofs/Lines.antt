@@ -1,180 +1,111 @@
--- The line of seven numbers: each turn of the loops that count it and put it, and each way out of the calls.
+-- The answer to one record of a file, in the paper's words: 212 for a wrong line end, then the record's table, then 2 for an identifier that an earlier
+-- record has; 0 exactly if none of them holds.
 -- Assumes nothing.
-use Prim.Native.Nat.{ℕ, suc, _+_, _-_, _≤_, _<_}
+use Prim.Native.Nat.{ℕ, zero, suc, _+_, _*_, _<_}
 use mathlib.Core.Path.{_≡_, refl, sym, ap, _∙_}
-use mathlib.Core.Bool.{Bool, true, false}
-use mathlib.Core.List.{List, [], _∷_, _++_, append-assoc}
-use native.Mathlib.Nat.{add-assoc, add-zero}
-use native.Mathlib.Numerals.{add-one}
+use mathlib.Core.Bool.{Bool, true, false, cond, _&&_, _||_}
+use mathlib.Core.List.{List}
+use mathlib.Core.Logic.{_↔_}
 use native.Mathlib.Omega.{arith}
-use borrow.Author.Tests.{lt-ltb, le-ltb, le-leb, lt-leb, leb-true}
-use borrow.Rule.Slice.PartMut.{putMid}
-use lib.Dec.{leb}
-use lib.ListN.{length, getD, take, drop, set, length-append, length-drop, take-append-drop}
-use lib.Seq.{take-at, drop-at, set-split, drop-drop, length-take-le}
+use borrow.Author.Tests.{eqb-true, eqb-false, eq-eqb}
+use lib.Dec.{eqb}
+use lib.ListN.{getD}
+use Rattle.text.specs.declared.Answer.{Answer}
 use Rattle.text.specs.Answers.{answer, accepted}
-use Rattle.text.specs.Lists.{overlay}
-use Rattle.text.specs.Numbers.{digits, places, placesUpTo, decimal}
-use Rattle.text.specs.Texts.{bytes}
-use Rattle.text.proofs.Lists.{step, ended}
-use Rattle.text.proofs.Numbers.{length-digits}
-use Rattle.fields.proofs.AmountWays.{overlay-put}
-use Rattle.posting.specs.declared.FileAnswer.{FileAnswer}
-use Rattle.posting.specs.declared.Reported.{Reported}
-use Rattle.posting.specs.File.{totalsOver, breakFrom, fileAnswer, refused}
-use Rattle.posting.specs.Report.{numbersOf, behind, line, reportOf, Report, inputAnswer}
+use Rattle.text.specs.Lists.{sameBytes}
+use Rattle.text.proofs.Lists.{same-exactly}
+use Rattle.record.specs.Columns.{orElse}
+use Rattle.record.specs.Rules.{recordAnswer}
+use Rattle.posting.specs.File.{recordAt, idAt, lineEnds, repeats, lineAnswer}
 
--- ---- one number on
-line-step : (ns : List ℕ) (i : ℕ) → i < length ns → line (drop i ns) ≡ decimal (getD ns i 0) ++ behind (drop (i + 1) ns) ∷ line (drop (i + 1) ns)
-unfolding line
-line-step ns i h = rw (step ns i h)
+-- ---- what the rules speak of
+-- record i is followed by 0Dh 0Ah
+pub record Ended (file : List ℕ) (i : ℕ) : Type 0 where
+  pub return : getD file (i * 401 + 399) 0 ≡ 13
+  pub feed : getD file (i * 401 + 400) 0 ≡ 10
 
-line-ended : (ns : List ℕ) (i : ℕ) → length ns ≤ i → line (drop i ns) ≡ []
-unfolding line
-line-ended ns i h = rw (ended ns i h)
+-- one of the first n records has the identifier of record i
+pub record Repeated (file : List ℕ) (i n : ℕ) : Type 0 where
+  pub earlier : ℕ
+  pub before : earlier < n
+  pub same : idAt file earlier ≡ idAt file i
 
--- ---- line_length
-module _ (ns : List ℕ) (i c r : ℕ) (known : c + length (line (drop i ns)) ≡ r) where
-  pub count-on : (w : ℕ) → i < length ns → (w ≡ places (getD ns i 0)) × (1 ≤ w) × (w ≤ 20) → c + (w + 1) + length (line (drop (i + 1) ns)) ≡ r
-  count-on w h e =
-      let n : ℕ = getD ns i 0 in
-      let here : length (line (drop i ns)) ≡ w + suc (length (line (drop (i + 1) ns))) =
-      rw (line-step ns i h, length-append (decimal n) (behind (drop (i + 1) ns) ∷ line (drop (i + 1) ns)), length-digits (places n) n, ← e .0) in
-      omega arith
+-- ---- the tests decide them
+pub clash : {b : Bool} → b ≡ true → b ≡ false → ⊥
+clash t f = let z : _≡_ {A = ℕ} 0 1 = cc in omega arith
 
-  pub count-ends : length ns ≤ i → c ≡ r
-  count-ends h =
-      let none : length (line (drop i ns)) ≡ 0 = rw (line-ended ns i h) in
-      omega arith
-
--- ---- the byte behind
-pub behind-more : (ns : List ℕ) (i : ℕ) → i + 1 < length ns → 32 ≡ behind (drop (i + 1) ns)
-behind-more ns i h = rw (step ns (i + 1) h)
-
-pub behind-last : (ns : List ℕ) (i : ℕ) → length ns ≤ i + 1 → 10 ≡ behind (drop (i + 1) ns)
-behind-last ns i h = rw (ended ns (i + 1) h)
-
--- ---- texts put into a list
-pub length-overlay : (s p : List ℕ) (a : ℕ) → a + length p ≤ length s → length (overlay s a p) ≡ length s
-length-overlay s p a h = simp (length-append, length-take-le a s (omega arith), length-drop) (omega arith)
-
-pub overlay-none : (s : List ℕ) (a : ℕ) → overlay s a [] ≡ s
-overlay-none s a = rw (add-zero a) (take-append-drop a s)
-
--- one put behind another is both put at once
-pub overlay-join : (s p q : List ℕ) (a : ℕ) → a ≤ length s → overlay (overlay s a p) (a + length p) q ≡ overlay s a (p ++ q)
-overlay-join s p q a h =
-    let e : ℕ = a + length p in
-    let rest : List ℕ = drop e s in
-    let front : length (take a s ++ p) ≡ e = length-append (take a s) p ∙ ap (λ (k : ℕ). k + length p) (length-take-le a s h) in
-    let behind-both : drop (e + length q) ((take a s ++ p) ++ rest) ≡ drop (a + length (p ++ q)) s =
-    rw (← drop-drop (length q) e ((take a s ++ p) ++ rest), drop-at (take a s ++ p) rest e front, drop-drop (length q) e s, length-append p q, add-assoc a (length p) (length q)) in
-    rw (← append-assoc (take a s) p rest, take-at (take a s ++ p) rest e front, behind-both) (simp append-assoc)
-
-set-behind : (s p : List ℕ) (a b : ℕ) → a + length p < length s → set (overlay s a p) (a + length p) b ≡ overlay s a (p ++ b ∷ [])
-set-behind s p a b h =
-    let e : ℕ = a + length p in
-    let long : e < length (overlay s a p) = rw (length-overlay s p a (omega arith)) h in
-    set-split (overlay s a p) e b long ∙ ap (λ (k : ℕ). take e (overlay s a p) ++ b ∷ drop k (overlay s a p)) (sym (add-one e)) ∙ overlay-join s p (b ∷ []) a (omega arith)
-
--- ---- put_number
-pub number-put : (s t : List ℕ) (a n b w : ℕ) → a + places n < length s → (w ≡ places n) × (1 ≤ w) × (w ≤ 20)
-    → t ≡ digits (length (take (a + w - a) (drop a s))) n → set (putMid a (a + w - a) s t) (a + w) b ≡ overlay s a (decimal n ++ b ∷ [])
-number-put s t a n b w room ew e =
-    let long : length (decimal n) ≡ w = length-digits (places n) n ∙ sym (ew .0) in
-    let put : putMid a (a + w - a) s t ≡ overlay s a (decimal n) = overlay-put s t a w n (omega arith) e ∙ rw (ew .0) in
-    rw (put, ← long) (set-behind s (decimal n) a b (omega arith))
-
--- ---- put_line: what the rest will make of the buffer is what the whole line makes of it
--- number i with the byte behind it
-abbrev item : List ℕ → ℕ → List ℕ
-item ns i = decimal (getD ns i 0) ++ behind (drop (i + 1) ns) ∷ []
-
-length-item : (ns : List ℕ) (i : ℕ) → length (item ns i) ≡ places (getD ns i 0) + 1
-length-item ns i =
-    let n : ℕ = getD ns i 0 in
-    length-append (decimal n) (behind (drop (i + 1) ns) ∷ []) ∙ rw (length-digits (places n) n)
-
-module _ (ns : List ℕ) (i a : ℕ) (o : List ℕ) (h : i < length ns) (room : a + length (line (drop i ns)) ≤ length o) where
-  joined : line (drop i ns) ≡ item ns i ++ line (drop (i + 1) ns)
-  joined = line-step ns i h ∙ sym (append-assoc (decimal (getD ns i 0)) (behind (drop (i + 1) ns) ∷ []) (line (drop (i + 1) ns)))
-
-  split-room : a + (places (getD ns i 0) + 1 + length (line (drop (i + 1) ns))) ≤ length o
-  split-room = rw (joined, length-append (item ns i) (line (drop (i + 1) ns)), length-item ns i) at room
-
-  pub room-number : a + places (getD ns i 0) < length o
-  room-number = omega (arith, split-room)
-
-  module _ (o′ : List ℕ) (a′ b : ℕ) (eb : b ≡ behind (drop (i + 1) ns))
-      (put : (o′ ≡ overlay o a (decimal (getD ns i 0) ++ b ∷ [])) × (a′ ≡ a + places (getD ns i 0) + 1)) where
-    now-is : o′ ≡ overlay o a (item ns i)
-    now-is = put .0 ∙ rw eb
-
-    pub put-long : (l : ℕ) → length o ≡ l → length o′ ≡ l
-    put-long l e = rw now-is (length-overlay o (item ns i) a (omega (arith, length-item ns i, split-room)) ∙ e)
-
-    pub put-room : a′ + length (line (drop (i + 1) ns)) ≤ length o′
-    put-room = omega (arith, put-long (length o) refl, put .1, split-room)
-
-    pub put-on : (r : List ℕ) → overlay o a (line (drop i ns)) ≡ r → overlay o′ a′ (line (drop (i + 1) ns)) ≡ r
-    put-on r e =
-        let at : a′ ≡ a + length (item ns i) = omega (arith, put .1, length-item ns i) in
-        rw (at, now-is, overlay-join o (item ns i) (line (drop (i + 1) ns)) a (omega (arith, split-room)), ← joined) e
-
-pub put-done : (ns o : List ℕ) (i a : ℕ) (r : List ℕ) → length ns ≤ i → overlay o a (line (drop i ns)) ≡ r → o ≡ r
-put-done ns o i a r h e = sym (overlay-none o a) ∙ (rw (line-ended ns i h) at e)
-
--- ---- put_report
-module _ (a : FileAnswer) (ns s : List ℕ) (n : ℕ) (en : ns ≡ numbersOf a) (el : n ≡ length (line ns)) where
-  size : n ≡ length (reportOf a)
-  size = el ∙ ap (λ (l : List ℕ). length (line l)) en
-
-  pub report-short : length s < n → Report a s (record { answer = answer 236 0; length = 0 }) s
-  report-short h =
-      let t : leb (length (reportOf a)) (length s) ≡ false = lt-leb (length (reportOf a)) (length s) (omega (arith, size)) in
-      record { answers = rw t; counts = rw t; bytes = rw t }
-
-  pub report-put : (s′ : List ℕ) → n ≤ length s → s′ ≡ overlay s 0 (line ns) → Report a s (record { answer = accepted; length = n }) s′
-  report-put s′ h e =
-      let t : leb (length (reportOf a)) (length s) ≡ true = le-leb (length (reportOf a)) (length s) (omega (arith, size)) in
-      record { answers = rw t; counts = rw t size; bytes = rw t (e ∙ ap (λ (l : List ℕ). overlay s 0 (line l)) en) }
-
-pub report-of : (a a′ : FileAnswer) (s s′ : List ℕ) (r : Reported) → a′ ≡ a → Report a′ s r s′ → Report a s r s′
-report-of a a′ s s′ r e p = rw e at p
-
--- what a caller needs to take the line off the buffer's front
-pub report-within : (a : FileAnswer) (s t : List ℕ) (r : Reported) → Report a s r t → r .length ≤ length t
-report-within a s t r p = go (leb (length (reportOf a)) (length s)) refl
+both : (a b : ℕ) (x y : ℕ) → (eqb a x && eqb b y ≡ true) ↔ ((a ≡ x) × (b ≡ y))
+both a b x y = (go (eqb a x) refl (eqb b y) refl, λ p. rw (eq-eqb a x (p .0), eq-eqb b y (p .1)))
   where
-    go : (b : Bool) → leb (length (reportOf a)) (length s) ≡ b → r .length ≤ length t
-    go true e =
-        let fits = leb-true (length (reportOf a)) (length s) e in
-        let bytes-are : t ≡ overlay s 0 (reportOf a) = rw e at (p .bytes) in
-        let count : r .length ≡ length (reportOf a) = rw e at (p .counts) in
-        omega (arith, ap length bytes-are, length-overlay s (reportOf a) 0 (omega arith))
-    go false e = let none : r .length ≡ 0 = rw e at (p .counts) in omega arith
+    go : (s : Bool) → eqb a x ≡ s → (t : Bool) → eqb b y ≡ t → s && t ≡ true → (a ≡ x) × (b ≡ y)
+    go true e true f h = (eqb-true a x e, eqb-true b y f)
+    go true e false f h = absurd (clash h refl)
+    go false e t f h = absurd (clash h refl)
 
-pub report-front : (a : FileAnswer) (s t : List ℕ) (r : Reported) → Report a s r t → r .length ≡ length (take (r .length) t)
-report-front a s t r p = sym (length-take-le (r .length) t (report-within a s t r p))
+pub ended-exactly : (file : List ℕ) (i : ℕ) → (lineEnds file i ≡ true) ↔ Ended file i
+ended-exactly file i =
+    let b = both (getD file (i * 401 + 399) 0) (getD file (i * 401 + 400) 0) 13 10 in
+    (λ t. let p = b .0 t in record { return = p .0; feed = p .1 }, λ e. b .1 (e .return, e .feed))
 
--- ---- check_input
-pub input-long : (input : List ℕ) (r : FileAnswer) → 64160 < length input → r ≡ refused 213 0 0 → r ≡ inputAnswer input
-unfolding inputAnswer
-input-long input r h e = e ∙ rw (lt-ltb 64160 (length input) h)
+-- not the last of them, so one before it
+not-last : (file : List ℕ) (i n : ℕ) → sameBytes (idAt file n) (idAt file i) ≡ false → Repeated file i (suc n) → Repeated file i n
+not-last file i n e r = go (eqb (r .earlier) n) refl
+  where
+    go : (t : Bool) → eqb (r .earlier) n ≡ t → Repeated file i n
+    go true q =
+        let here : idAt file n ≡ idAt file i = rw (eqb-true (r .earlier) n q) at (r .same) in
+        absurd (clash (same-exactly (idAt file n) (idAt file i) .1 here) e)
+    go false q = let no = eqb-false (r .earlier) n q in record { earlier = r .earlier; before = omega (arith, r .before); same = r .same }
 
-pub input-taken : (input : List ℕ) (r : FileAnswer) → length input ≤ 64160 → r ≡ fileAnswer input → r ≡ inputAnswer input
-unfolding inputAnswer
-input-taken input r h e = e ∙ rw (le-ltb 64160 (length input) h)
+-- some j < n has the identifier of record i
+pub repeats-exactly : (file : List ℕ) (i n : ℕ) → (repeats file i n ≡ true) ↔ Repeated file i n
+unfolding repeats
+repeats-exactly file i zero = (λ t. absurd (clash t refl), λ r. absurd (omega (arith, r .before)))
+repeats-exactly file i (suc n) = go (sameBytes (idAt file n) (idAt file i)) refl (repeats-exactly file i n)
+  where
+    go : (b : Bool) → sameBytes (idAt file n) (idAt file i) ≡ b → (repeats file i n ≡ true) ↔ Repeated file i n → (b || repeats file i n ≡ true) ↔ Repeated file i (suc n)
+    go true e h = (λ t. record { earlier = n; before = omega arith; same = same-exactly _ _ .0 e }, λ r. refl)
+    go false e h = (
+      λ t. let r = h .0 t in record { earlier = r .earlier; before = omega (arith, r .before); same = r .same },
+      λ r. h .1 (not-last file i n e r),
+    )
 
--- ---- the whole outputs that the paper gives
-pub no-input : reportOf (inputAnswer []) ≡ bytes "0 0 0 0 0 0 0" ++ 10 ∷ []
-unfolding inputAnswer fileAnswer breakFrom totalsOver line digits placesUpTo bytes
-no-input = refl
+-- ---- the answer to record i
+pub data LineOutcome (file : List ℕ) (i : ℕ) (a : Answer) : Type 0 where
+  ends-wrong : (Ended file i → ⊥) → a ≡ answer 212 0 → LineOutcome file i a
+  breaks-table : Ended file i → (recordAnswer false (recordAt file i) .code ≡ 0 → ⊥) → a ≡ recordAnswer false (recordAt file i) → LineOutcome file i a
+  repeats-earlier : Ended file i → recordAnswer false (recordAt file i) .code ≡ 0 → Repeated file i i → a ≡ answer 2 1 → LineOutcome file i a
+  right : Ended file i → recordAnswer false (recordAt file i) .code ≡ 0 → (Repeated file i i → ⊥) → a ≡ accepted → LineOutcome file i a
 
-pub one-byte : reportOf (inputAnswer (65 ∷ [])) ≡ bytes "211 0 0 0 0 0 0" ++ 10 ∷ []
-unfolding inputAnswer fileAnswer line digits placesUpTo bytes
-one-byte = refl
+pub line-outcome : (file : List ℕ) (i : ℕ) → LineOutcome file i (lineAnswer file i)
+unfolding lineAnswer orElse
+line-outcome file i = go (lineEnds file i) refl (eqb (recordAnswer false (recordAt file i) .code) 0) refl (repeats file i i) refl
+  where
+    go : (s : Bool) → lineEnds file i ≡ s → (t : Bool) → eqb (recordAnswer false (recordAt file i) .code) 0 ≡ t → (u : Bool) → repeats file i i ≡ u
+        → LineOutcome file i (cond s (cond t (cond u (answer 2 1) accepted) (recordAnswer false (recordAt file i))) (answer 212 0))
+    go false e t f u g = ends-wrong (λ x. clash (ended-exactly file i .1 x) e) refl
+    go true e false f u g = breaks-table (ended-exactly file i .0 e) (eqb-false _ 0 f) refl
+    go true e true f true g = repeats-earlier (ended-exactly file i .0 e) (eqb-true _ 0 f) (repeats-exactly file i i .0 g) refl
+    go true e true f false g = right (ended-exactly file i .0 e) (eqb-true _ 0 f) (λ x. clash (repeats-exactly file i i .1 x) g) refl
 
-pub long-input : (input : List ℕ) → 64160 < length input → reportOf (inputAnswer input) ≡ bytes "213 0 0 0 0 0 0" ++ 10 ∷ []
-unfolding line digits placesUpTo bytes
-long-input input h = rw (← input-long input (refused 213 0 0) h refl)
+-- ---- code 0
+-- record i keeps every rule
+pub record RightLine (file : List ℕ) (i : ℕ) : Type 0 where
+  pub ended : Ended file i
+  pub table : recordAnswer false (recordAt file i) .code ≡ 0
+  pub fresh : (j : ℕ) → j < i → idAt file j ≡ idAt file i → ⊥
+
+pub line-right-exactly : (file : List ℕ) (i : ℕ) → (lineAnswer file i .code ≡ 0) ↔ RightLine file i
+line-right-exactly file i = go (line-outcome file i)
+  where
+    not-coded : {a : Answer} {c p : ℕ} → a ≡ answer c p → (c ≡ 0 → ⊥) → a .code ≡ 0 → ⊥
+    not-coded e n z = n (sym (ap (λ (x : Answer). x .code) e) ∙ z)
+
+    go : {a : Answer} → LineOutcome file i a → (a .code ≡ 0) ↔ RightLine file i
+    go (ends-wrong n e) = (λ z. absurd (not-coded e (λ q. omega arith) z), λ r. absurd (n (r .ended)))
+    go (breaks-table d n e) = (λ z. absurd (n (rw e at z)), λ r. absurd (n (r .table)))
+    go (repeats-earlier d t r e) = (λ z. absurd (not-coded e (λ q. omega arith) z), λ x. absurd (x .fresh (r .earlier) (r .before) (r .same)))
+    go (right d t n e) = (
+      λ z. record { ended = d; table = t; fresh = λ j h q. n (record { earlier = j; before = h; same = q }) },
+      λ r. ap (λ (x : Answer). x .code) e,
+    )

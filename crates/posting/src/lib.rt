@@ -7,7 +7,7 @@ ghost use Rattle.text.specs.Promises.{Gives};
 ghost use Rattle.text.specs.Lists.{overlay};
 ghost use Rattle.text.specs.Numbers.{places, decimal};
 ghost use Rattle.posting.specs.File.{repeats, lineAnswer, noTotals, amountIn, withRecord, refused, fileAnswer};
-ghost use Rattle.posting.specs.Bounds.{Small};
+ghost use Rattle.posting.specs.Bounds.{Small, counted};
 ghost use Rattle.posting.specs.Report.{numbersOf, behind, line, Report, inputAnswer};
 use fields::Hellers;
 use fields::MoneyReading;
@@ -150,6 +150,19 @@ fn with_record(t: Totals, rec: &[u8]) -> Totals
         },
         StatusReading::Malformed => t,
     }
+}
+
+// The totals with a record more, for whoever counts a file record by record. Totals that no file has stay as they are.
+pub fn count_record(t: Totals, rec: &[u8]) -> Totals
+    ensures { λ r. ⌜ Gives (counted t (now (rec .entry))) r ⌝ }
+{
+    let cash = t.cash;
+    let price = t.price;
+    let small = (t.live < 1000)
+        & (t.cancelled < 1000)
+        & (cash.0 < 100_000_000_000_000)
+        & (price.0 < 100_000_000_000_000);
+    if small { with_record(t, rec) } else { t }
 }
 
 pub fn check(file: &[u8]) -> FileAnswer

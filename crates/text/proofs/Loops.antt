@@ -2,7 +2,8 @@
 -- Assumes nothing.
 use Prim.Native.Nat.{ℕ, zero, suc, _+_, _-_, _*_, _/_, _%_, _≤_, _<_}
 use mathlib.Core.Path.{_≡_, refl, sym, ap, _∙_}
-use mathlib.Core.Bool.{Bool, true, false, _&&_, not}
+use mathlib.Core.Bool.{Bool, true, false, _&&_, not, and-false}
+use lib.Dec.{eqb}
 use mathlib.Core.List.{List, [], _∷_, _++_, append-assoc, append-nil}
 use native.Mathlib.Nat.{add-comm}
 use native.Mathlib.Numerals.{add-one}
@@ -11,6 +12,7 @@ use borrow.Author.Tests.{eq-eqb, ne-eqb, lt-ltb, le-ltb, not-true, not-false}
 use lib.ListN.{length, getD, take, drop, set, replicate, length-take, length-set, length-replicate}
 use lib.Seq.{getD-take, drop-set-lt, getD-set-same, drop-length}
 use Rattle.text.specs.Bytes.{every, isBlank, run}
+use Rattle.text.specs.Lists.{sameBytes}
 use Rattle.text.specs.Numbers.{numberAfter, digits, placesUpTo}
 use Rattle.text.proofs.Lists.{step, ended}
 use Rattle.text.proofs.Decimals.{places-one}
@@ -116,3 +118,24 @@ pub filled-all : (b : ℕ) (s : List ℕ) (i : ℕ) → length s ≤ i → i ≤
 filled-all b s i h l =
     let e : i ≡ length s = omega arith in
     rw (e, drop-length) (append-nil (replicate (length s) b))
+
+-- ---- same
+pub same-not-long : (a b : List ℕ) → (length a ≡ length b → ⊥) → false ≡ sameBytes a b
+unfolding sameBytes
+same-not-long [] [] n = absurd (n refl)
+same-not-long [] (y ∷ b) n = refl
+same-not-long (x ∷ a) [] n = refl
+same-not-long (x ∷ a) (y ∷ b) n = rw (← same-not-long a b (λ e. n (ap suc e))) (sym (and-false (eqb x y)))
+
+module _ (a b : List ℕ) (i : ℕ) (r : Bool) (known : sameBytes (drop i a) (drop i b) ≡ r) (h : i < length a) (long : length a ≡ length b) where
+  pub same-differs : (getD a i 0 ≡ getD b i 0 → ⊥) → false ≡ r
+  unfolding sameBytes
+  same-differs n = rw (step a i h, step b i (omega arith), ne-eqb (getD a i 0) (getD b i 0) n) at known
+
+  pub same-on : getD a i 0 ≡ getD b i 0 → sameBytes (drop (i + 1) a) (drop (i + 1) b) ≡ r
+  unfolding sameBytes
+  same-on e = rw (step a i h, step b i (omega arith), eq-eqb (getD a i 0) (getD b i 0) e) at known
+
+pub same-ends : (a b : List ℕ) (i : ℕ) (r : Bool) → sameBytes (drop i a) (drop i b) ≡ r → length a ≤ i → length a ≡ length b → true ≡ r
+unfolding sameBytes
+same-ends a b i r known h long = rw (ended a i h, ended b i (omega arith)) at known

@@ -3,6 +3,7 @@ ghost use mathlib.Core.Path.{_≡_};
 ghost use Prim.Native.Nat.{_-_, _≤_, _<_};
 ghost use lib.ListN.{length, replicate};
 ghost use Rattle.text.specs.Bytes.{isDigit, isCapital, allDigits, isBlank, run};
+ghost use Rattle.text.specs.Lists.{sameBytes};
 ghost use Rattle.text.specs.Numbers.{numberOfFirst, digits, places};
 
 // What a call answers: the paper's code and place; 0 and 0 where it accepts.
@@ -42,6 +43,23 @@ pub fn blank(s: &[u8]) -> bool
     let mut i = 0;
     while i < s.len() {
         if s[i] != b' ' {
+            return false;
+        }
+        i += 1;
+    }
+    true
+}
+
+// Whether two slices of any length are the same bytes.
+pub fn same(a: &[u8], b: &[u8]) -> bool
+    ensures { λ r. ⌜ r ≡ sameBytes (now (a .entry)) (now (b .entry)) ⌝ }
+{
+    if a.len() != b.len() {
+        return false;
+    }
+    let mut i = 0;
+    while i < a.len() {
+        if a[i] != b[i] {
             return false;
         }
         i += 1;

@@ -1,7 +1,7 @@
 -- `kcheck::print_report` meets its contract: the line that is written is within the buffer.
 -- Assumes nothing.
 use borrow.Author.Needs.{needs}
-use Rattle.posting.proofs.Lines.{report-within, report-front}
+use Rattle.posting.proofs.ReportWays.{report-within, report-front}
 use Rattle.kcheck.proofs.print_report.Statement.{statement}
 use Rattle.kcheck.proofs.print_report.Tie as tie
 

@@ -1,7 +1,7 @@
 -- `posting::behind` meets its contract.
 -- Assumes nothing.
 use borrow.Author.Needs.{needs}
-use Rattle.posting.proofs.Lines.{behind-more, behind-last}
+use Rattle.posting.proofs.ReportWays.{behind-more, behind-last}
 use Rattle.posting.proofs.behind.Statement.{statement}
 use Rattle.posting.proofs.behind.Tie as tie
 

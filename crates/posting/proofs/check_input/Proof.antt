@@ -1,7 +1,7 @@
 -- `posting::check_input` meets its contract.
 -- Assumes nothing.
 use borrow.Author.Needs.{needs}
-use Rattle.posting.proofs.Lines.{input-long, input-taken}
+use Rattle.posting.proofs.ReportWays.{input-long, input-taken}
 use Rattle.posting.proofs.check_input.Statement.{statement}
 use Rattle.posting.proofs.check_input.Tie as tie
 

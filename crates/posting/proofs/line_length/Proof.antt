@@ -6,7 +6,7 @@ use mathlib.Core.Path.{_≡_}
 use Prim.Native.Nat.{_+_, _-_, _*_, _≤_}
 use lib.ListN.{length, drop}
 use Rattle.posting.specs.Report.{line}
-use Rattle.posting.proofs.Lines.{count-on, count-ends}
+use Rattle.posting.proofs.ReportWays.{count-on, count-ends}
 use Rattle.posting.proofs.line_length.Statement.{statement}
 use Rattle.posting.proofs.line_length.Tie as tie
 

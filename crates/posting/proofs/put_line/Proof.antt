@@ -7,7 +7,7 @@ use Prim.Native.Nat.{_+_, _-_, _≤_}
 use lib.ListN.{length, drop}
 use Rattle.text.specs.Lists.{overlay}
 use Rattle.posting.specs.Report.{line}
-use Rattle.posting.proofs.Lines.{room-number, put-room, put-on, put-done}
+use Rattle.posting.proofs.ReportWays.{room-number, put-room, put-on, put-done}
 use Rattle.posting.proofs.put_line.Statement.{statement}
 use Rattle.posting.proofs.put_line.Tie as tie
 

@@ -2,7 +2,7 @@
 -- Assumes nothing.
 use borrow.Author.Needs.{needs}
 use native.Mathlib.Omega.{arith}
-use Rattle.posting.proofs.Lines.{number-put}
+use Rattle.posting.proofs.ReportWays.{number-put}
 use Rattle.posting.proofs.put_number.Statement.{statement}
 use Rattle.posting.proofs.put_number.Tie as tie
 

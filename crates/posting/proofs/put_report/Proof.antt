@@ -1,7 +1,7 @@
 -- `posting::put_report` meets its contract.
 -- Assumes nothing.
 use borrow.Author.Needs.{needs}
-use Rattle.posting.proofs.Lines.{report-short, report-put}
+use Rattle.posting.proofs.ReportWays.{report-short, report-put}
 use Rattle.posting.proofs.put_report.Statement.{statement}
 use Rattle.posting.proofs.put_report.Tie as tie
 

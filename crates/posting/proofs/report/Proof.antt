@@ -1,7 +1,7 @@
 -- `posting::report` meets its contract.
 -- Assumes nothing.
 use borrow.Author.Needs.{needs}
-use Rattle.posting.proofs.Lines.{report-of}
+use Rattle.posting.proofs.ReportWays.{report-of}
 use Rattle.posting.proofs.report.Statement.{statement}
 use Rattle.posting.proofs.report.Tie as tie
 

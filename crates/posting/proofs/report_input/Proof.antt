@@ -1,7 +1,7 @@
 -- `posting::report_input` meets its contract.
 -- Assumes nothing.
 use borrow.Author.Needs.{needs}
-use Rattle.posting.proofs.Lines.{report-of}
+use Rattle.posting.proofs.ReportWays.{report-of}
 use Rattle.posting.proofs.report_input.Statement.{statement}
 use Rattle.posting.proofs.report_input.Tie as tie
 

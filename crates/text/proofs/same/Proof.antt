@@ -1,14 +1,14 @@
--- `ident::same` meets its contract.
+-- `text::same` meets its contract.
 -- Assumes nothing.
 use borrow.Author.Needs.{needs}
 use native.Mathlib.Omega.{arith}
 use Prim.Native.Nat.{_-_, _≤_}
 use mathlib.Core.Path.{_≡_, refl}
 use lib.ListN.{length, drop}
 use Rattle.text.specs.Lists.{sameBytes}
-use Rattle.ident.proofs.Ways.{same-not-long, same-differs, same-on, same-ends}
-use Rattle.ident.proofs.same.Statement.{statement}
-use Rattle.ident.proofs.same.Tie as tie
+use Rattle.text.proofs.Loops.{same-not-long, same-differs, same-on, same-ends}
+use Rattle.text.proofs.same.Statement.{statement}
+use Rattle.text.proofs.same.Tie as tie
 
 abbrev Inv-loop : tie.InvT-loop
 Inv-loop a b i₀ i = (i ≤ length a) × (sameBytes (drop i a) (drop i b) ≡ sameBytes a b)

@@ -1,0 +1,143 @@
+-- The test of the state, and writing entries: each way out of the functions.
+-- Assumes nothing.
+use Prim.Native.Nat.{ℕ, zero, suc, _+_, _-_, _*_, _%_, _≤_, _<_}
+use mathlib.Core.Path.{_≡_, refl, sym, ap, _∙_}
+use mathlib.Core.Bool.{Bool, true, false, cond, not, _&&_, and-eq-true-iff}
+use mathlib.Core.List.{List, [], _∷_, _++_, append-nil}
+use native.Mathlib.Nat.{add-sub-cancel-left}
+use native.Mathlib.Omega.{arith}
+use borrow.Author.Tests.{eq-eqb, ne-eqb, le-leb, lt-leb, leb-true, eqb-true, not-true, not-false}
+use borrow.Rule.Slice.PartMut.{putMid}
+use lib.Dec.{eqb, leb}
+use lib.ListN.{length, getD, take, drop, set, replicate, length-append, length-replicate, length-take, drop-of-length-le}
+use lib.Seq.{take-all, length-take-le}
+use Rattle.text.specs.declared.Answer.{Answer}
+use Rattle.text.specs.Answers.{answer, accepted}
+use Rattle.text.specs.Bytes.{every}
+use Rattle.text.specs.Lists.{sameBytes, overlay}
+use Rattle.text.proofs.Lists.{spelled, put-is}
+use Rattle.fields.specs.declared.Hellers.{Hellers}
+use Rattle.posting.specs.declared.Totals.{Totals}
+use Rattle.posting.specs.File.{totalsOver}
+use Rattle.batch.specs.declared.Counts.{Counts}
+use Rattle.batch.specs.declared.Walk.{Walk}
+use Rattle.batch.specs.Journal.{head, entry, rebuilt, Run}
+use Rattle.batch.specs.Duties.{Replayed}
+use Rattle.batch.specs.Batch.{Batch, batchOf, isZero, sameTotals, sound, rightLengths}
+use Rattle.batch.specs.Guards.{Ready, Verified, Guarded}
+
+clash : (b : Bool) → b ≡ true → b ≡ false → ⊥
+clash b p q = let z : _≡_ {A = ℕ} 0 1 = cc in omega arith
+
+-- totals whose numbers are the same
+record-of : (l k d q : ℕ) → Totals
+record-of l k d q = record { live = l; cancelled = k; cash = record { 0 = d }; price = record { 0 = q } }
+
+four : (l k d q l′ k′ d′ q′ : ℕ) → l ≡ l′ → k ≡ k′ → d ≡ d′ → q ≡ q′ → record-of l k d q ≡ record-of l′ k′ d′ q′
+four l k d q l′ k′ d′ q′ a b e f = rw (a, b, e, f)
+
+totals-same : (a b : Totals) → sameTotals a b ≡ true → a ≡ b
+unfolding record-of
+totals-same a b h =
+    let p4 = and-eq-true-iff (eqb (a .live) (b .live) && eqb (a .cancelled) (b .cancelled) && eqb (a .cash .0) (b .cash .0)) (eqb (a .price .0) (b .price .0)) .0 h in
+    let p3 = and-eq-true-iff (eqb (a .live) (b .live) && eqb (a .cancelled) (b .cancelled)) (eqb (a .cash .0) (b .cash .0)) .0 (p4 .0) in
+    let p2 = and-eq-true-iff (eqb (a .live) (b .live)) (eqb (a .cancelled) (b .cancelled)) .0 (p3 .0) in
+    four (a .live) (a .cancelled) (a .cash .0) (a .price .0) (b .live) (b .cancelled) (b .cash .0) (b .price .0)
+    (eqb-true (a .live) (b .live) (p2 .0)) (eqb-true (a .cancelled) (b .cancelled) (p2 .1)) (eqb-true (a .cash .0) (b .cash .0) (p3 .1)) (eqb-true (a .price .0) (b .price .0) (p4 .1))
+
+-- a test that failed
+refused-by : (file journal : List ℕ) (c : Counts) → sound (batchOf file journal c) ≡ false → Verified file journal c false
+refused-by file journal c e = record { says = sym e; ready = λ y. absurd (clash false y refl) }
+
+pub used-past : (file journal : List ℕ) (c : Counts) → length journal < c .used → Verified file journal c false
+unfolding sound
+used-past file journal c h = refused-by file journal c (rw (lt-leb (c .used) (length journal) h))
+
+-- the replay of a sound batch, in a scratch buffer as long as the file
+module _ (scratch file journal : List ℕ) (c : Counts) (pre : (length scratch ≡ length file) × (length file ≤ 400599)) (u : c .used ≤ length journal)
+    (w : Walk) (made : List ℕ) (p : Replayed scratch journal (c .used) w made) where
+  walk-is : rebuilt (length file) journal (c .used) .walk ≡ w
+  walk-is = rw (← pre .0) (sym (p .walks))
+
+  file-is : rebuilt (length file) journal (c .used) .file ≡ made
+  file-is = rw (← pre .0) (sym (p .files))
+
+  pub walk-bad : not (w .good) ≡ true → Verified file journal c false
+  unfolding sound
+  walk-bad n = refused-by file journal c (rw (le-leb (c .used) (length journal) u, walk-is, not-true (w .good) n))
+
+  module _ (g : not (w .good) ≡ false) where
+    pub held-other : (w .held ≡ c .held → ⊥) → Verified file journal c false
+    unfolding sound
+    held-other n = refused-by file journal c (rw (le-leb (c .used) (length journal) u, walk-is, not-false (w .good) g, ne-eqb (w .held) (c .held) n))
+
+    module _ (h : w .held ≡ c .held) (s : Bool) (es : s ≡ sameBytes made file) where
+      pub holds-so : (c .held ≤ 999) × (c .held * 401 ≤ length file)
+      holds-so = let q = p .holds (not-false (w .good) g) in (rw (← h) (q .0), rw (← h, ← pre .0) (q .1))
+
+      pub file-other : not s ≡ true → Verified file journal c false
+      unfolding sound
+      file-other n = refused-by file journal c (rw (le-leb (c .used) (length journal) u, walk-is, file-is, not-false (w .good) g, eq-eqb (w .held) (c .held) h, ← es, not-true s n))
+
+      module _ (ns : not s ≡ false) (z : Bool) (ez : z ≡ every isZero (drop (c .used) journal)) where
+        pub rest-not-zero : not z ≡ true → Verified file journal c false
+        unfolding sound
+        rest-not-zero n = refused-by file journal c (rw (le-leb (c .used) (length journal) u, walk-is, file-is, not-false (w .good) g, eq-eqb (w .held) (c .held) h, ← es, not-false s ns, ← ez, not-true z n))
+
+        pub by-totals : (t : Totals) (r : Bool) → not z ≡ false → t ≡ totalsOver file (c .held) → r ≡ sameTotals t (c .totals) → Verified file journal c r
+        unfolding sound
+        by-totals t r nz et er = record {
+          says = rw (le-leb (c .used) (length journal) u, walk-is, file-is, not-false (w .good) g, eq-eqb (w .held) (c .held) h, ← es, not-false s ns, ← ez, not-false z nz, ← et) er;
+          ready = λ y. record { few = holds-so .0; fits = holds-so .1; within = u; totals = sym (totals-same t (c .totals) (sym er ∙ y)) ∙ et };
+        }
+
+-- ---- verify
+pub scratch-long : (n k a : ℕ) → n ≤ k → length (take n (replicate k a)) ≡ n
+scratch-long n k a h = length-take-le n (replicate k a) (rw (length-replicate k a) h)
+
+-- ---- guard
+pub lengths-wrong : (file journal : List ℕ) (c : Counts) (b : Bool) → b ≡ rightLengths (length file) (length journal) → not b ≡ true → Guarded file journal c (answer 235 0)
+lengths-wrong file journal c b e n = record { says = rw (← e, not-true b n); ready = λ z. absurd (omega (arith, z)) }
+
+pub lengths-file : (n m : ℕ) (b : Bool) → b ≡ rightLengths n m → not b ≡ false → n ≤ 400599
+unfolding rightLengths
+lengths-file n m b e f =
+    let t = sym e ∙ not-false b f in
+    let p = and-eq-true-iff (eqb (n % 401) 0 && leb 401 n && leb n 400599 && leb 403 m) (leb m 1048576) .0 t in
+    let q = and-eq-true-iff (eqb (n % 401) 0 && leb 401 n && leb n 400599) (leb 403 m) .0 (p .0) in
+    leb-true n 400599 (and-eq-true-iff (eqb (n % 401) 0 && leb 401 n) (leb n 400599) .0 (q .0) .1)
+
+module _ (file journal : List ℕ) (c : Counts) (b : Bool) (e : b ≡ rightLengths (length file) (length journal)) (f : not b ≡ false) (v : Bool) (ev : Verified file journal c v) where
+  pub not-sound : not v ≡ true → Guarded file journal c (answer 237 0)
+  not-sound n = record { says = rw (← e, not-false b f, ← ev .says, not-true v n); ready = λ z. absurd (omega (arith, z)) }
+
+  pub all-sound : not v ≡ false → Guarded file journal c accepted
+  all-sound n = record { says = rw (← e, not-false b f, ← ev .says, not-false v n); ready = λ z. ev .ready (not-false v n) }
+
+-- ---- writing entries
+pub copied-all : (s t u : List ℕ) (i : ℕ) → length s ≡ length t → length t ≤ i → i ≤ length t → u ≡ take i t ++ drop i s → u ≡ t
+copied-all s t u i e h l g = g ∙ rw (take-all i t h, drop-of-length-le s {i = i} (omega arith)) (append-nil t)
+
+pub entry-written : (part made body : List ℕ) (kind low high : ℕ) → length part ≡ length body + 4 → made ≡ body → low ≡ getD (head kind) 0 0 → high ≡ getD (head kind) 1 0
+    → set (set (set (set (putMid 4 (length part - 4) part made) 0 low) 1 high) 2 kind) 3 0 ≡ entry kind body
+entry-written part made body kind low high e em el eh =
+    let front : take 4 part ≡ getD (take 4 part) 0 0 ∷ getD (drop 1 (take 4 part)) 0 0 ∷ getD (drop 1 (drop 1 (take 4 part))) 0 0 ∷ getD (drop 1 (drop 1 (drop 1 (take 4 part)))) 0 0 ∷ [] = spelled 4 (take 4 part) (length-take-le 4 part (omega arith)) in
+    let none : drop (length part) part ≡ [] = drop-of-length-le part {i = length part} (omega arith) in
+    let whole : putMid 4 (length part - 4) part made ≡ take 4 part ++ (body ++ []) = put-is 4 (length part) part made (omega arith) (omega arith) ∙ rw (em, none) in
+    rw (whole, append-nil body, front, el, eh) (go (eqb kind 2))
+  where
+    go : (t : Bool) → getD (cond t (17 ∷ 0 ∷ kind ∷ 0 ∷ []) (147 ∷ 1 ∷ kind ∷ 0 ∷ [])) 0 0 ∷ getD (cond t (17 ∷ 0 ∷ kind ∷ 0 ∷ []) (147 ∷ 1 ∷ kind ∷ 0 ∷ [])) 1 0 ∷ kind ∷ 0 ∷ body ≡ cond t (17 ∷ 0 ∷ kind ∷ 0 ∷ []) (147 ∷ 1 ∷ kind ∷ 0 ∷ []) ++ body
+    go true = refl
+    go false = refl
+
+pub entry-long : (kind : ℕ) (body : List ℕ) → length (entry kind body) ≡ length body + 4
+entry-long kind body = go (eqb kind 2)
+  where
+    go : (t : Bool) → length (cond t (17 ∷ 0 ∷ kind ∷ 0 ∷ []) (147 ∷ 1 ∷ kind ∷ 0 ∷ []) ++ body) ≡ length body + 4
+    go true = omega arith
+    go false = omega arith
+
+pub entry-put : (journal made body : List ℕ) (at kind : ℕ) → (length body ≤ 399) × (at + (length body + 4) ≤ length journal) → made ≡ entry kind body
+    → putMid at (at + (length body + 4) - at) journal made ≡ overlay journal at (entry kind body)
+entry-put journal made body at kind pre e =
+    put-is at (at + (length body + 4)) journal made (omega arith) (pre .1) ∙ rw (e, entry-long kind body)

@@ -1,0 +1,212 @@
+-- Accepted actions, entries of the journal, and the replay: each way out of the functions.
+-- Assumes nothing.
+use Prim.Native.Nat.{ℕ, zero, suc, _+_, _-_, _*_, _≤_, _<_}
+use mathlib.Core.Path.{_≡_, refl, sym, ap, _∙_}
+use mathlib.Core.Bool.{Bool, true, false, cond, not, _&&_, _||_}
+use mathlib.Core.List.{List, [], _∷_, _++_}
+use native.Mathlib.Nat.{add-sub-cancel-left}
+use native.Mathlib.Omega.{arith}
+use borrow.Rule.Slice.PartMut.{mid-len}
+use borrow.Author.Tests.{eq-eqb, ne-eqb, le-leb, lt-leb, leb-true, eqb-true, eqb-false}
+use lib.Dec.{eqb, leb}
+use lib.ListN.{length, getD, take, drop, length-take, length-drop}
+use Rattle.text.specs.declared.Answer.{Answer}
+use Rattle.text.specs.Answers.{answer, accepted}
+use Rattle.ident.specs.Identifier.{rightId}
+use Rattle.layout.specs.Layout.{fieldOf}
+use Rattle.record.specs.Columns.{orElse}
+use Rattle.record.specs.Rules.{recordAnswer}
+use Rattle.batch.specs.declared.Walk.{Walk}
+use Rattle.batch.specs.Actions.{seek, present, placeOf, isCancelled, idOf, liveAnswer, addAnswer, amendAnswer, cancelAnswer, withLine, withCancelled, actionAnswer, actionFile, actionHeld}
+use Rattle.batch.specs.Journal.{bodyLength, entryLength, headStands, startsEntry, kindAt, bodyAt, Run, runOf, stepAs, stepOf}
+use Rattle.batch.specs.Duties.{Acceptable, Stepping, Moved, Stepped}
+
+clash : (b : Bool) → b ≡ true → b ≡ false → ⊥
+clash b p q = let z : _≡_ {A = ℕ} 0 1 = cc in omega arith
+
+-- ---- where an action is accepted
+or-both : (a b : Answer) → orElse a b .code ≡ 0 → (a .code ≡ 0) × (b .code ≡ 0)
+unfolding orElse
+or-both a b h = go (eqb (a .code) 0) refl h
+  where
+    go : (t : Bool) → eqb (a .code) 0 ≡ t → cond t b a .code ≡ 0 → (a .code ≡ 0) × (b .code ≡ 0)
+    go true e h = (eqb-true (a .code) 0 e, h)
+    go false e h = absurd (eqb-false (a .code) 0 e h)
+
+live-found : (file id : List ℕ) (held : ℕ) → liveAnswer file held id .code ≡ 0 → 1 ≤ seek file id held
+live-found file id held h = go (eqb (seek file id held) 0) refl h
+  where
+    go : (t : Bool) → eqb (seek file id held) 0 ≡ t
+        → cond (not t) (cond (isCancelled file (placeOf file id held)) (answer 233 0) accepted) (answer 232 0) .code ≡ 0 → 1 ≤ seek file id held
+    go true e h = absurd (omega (arith, h))
+    go false e h = let n = eqb-false (seek file id held) 0 e in omega arith
+
+add-fits : (file rec : List ℕ) (held : ℕ) → addAnswer file held rec .code ≡ 0 → held * 401 + 401 ≤ length file
+unfolding addAnswer
+add-fits file rec held h = go (present file (idOf rec) held) (leb (held * 401 + 401) (length file)) refl (or-both (recordAnswer true rec) _ h .1)
+  where
+    go : (p q : Bool) → leb (held * 401 + 401) (length file) ≡ q → cond p (answer 2 1) (cond q accepted (answer 230 0)) .code ≡ 0 → held * 401 + 401 ≤ length file
+    go true q e h = absurd (omega (arith, h))
+    go false true e h = leb-true (held * 401 + 401) (length file) e
+    go false false e h = absurd (omega (arith, h))
+
+amend-live : (file rec : List ℕ) (held : ℕ) → amendAnswer file held rec .code ≡ 0 → liveAnswer file held (idOf rec) .code ≡ 0
+unfolding amendAnswer
+amend-live file rec held h = or-both (recordAnswer true rec) (liveAnswer file held (idOf rec)) h .1
+
+cancel-live : (file id : List ℕ) (held : ℕ) → cancelAnswer file held id .code ≡ 0 → liveAnswer file held id .code ≡ 0
+unfolding cancelAnswer
+cancel-live file id held h = go (rightId id) h
+  where
+    go : (t : Bool) → cond t (liveAnswer file held id) (answer 1 1) .code ≡ 0 → liveAnswer file held id .code ≡ 0
+    go true h = h
+    go false h = absurd (omega (arith, h))
+
+-- the place that an accepted action touches lies within the file
+module _ (file body : List ℕ) (held kind : ℕ) (pre : Acceptable file held kind body) where
+  pub adds-within : kind ≡ 1 → (held ≤ 999) × (held * 401 + 401 ≤ length file) × (length body ≡ 399)
+  unfolding actionAnswer
+  adds-within k =
+      let e : actionAnswer file held kind body ≡ addAnswer file held body = rw (eq-eqb kind 1 k) in
+      let sized : bodyLength kind ≡ 399 = rw k in
+      (pre .few, add-fits file body held (sym (ap (λ (x : Answer). x .code) e) ∙ pre .accepts), pre .sized ∙ sized)
+
+  module _ (n : ℕ) (some : 1 ≤ n) (most : n ≤ held) where
+    place-within : (n - 1 ≤ 999) × ((n - 1) * 401 + 401 ≤ length file)
+    place-within = (omega (arith, pre .few), omega (arith, pre .fits))
+
+  module _ (not1 : kind ≡ 1 → ⊥) (k : kind ≡ 3) (id : List ℕ) (ei : id ≡ fieldOf body 1) (n : ℕ) (en : (n ≡ seek file id held) × (n ≤ held)) where
+    pub amends-some : 1 ≤ n
+    unfolding actionAnswer
+    amends-some =
+        let e : actionAnswer file held kind body ≡ amendAnswer file held body = rw (ne-eqb kind 1 not1, eq-eqb kind 3 k) in
+        let live = amend-live file body held (sym (ap (λ (x : Answer). x .code) e) ∙ pre .accepts) in
+        rw (en .0, ei) (live-found file (idOf body) held live)
+
+    pub amends-within : (n - 1 ≤ 999) × ((n - 1) * 401 + 401 ≤ length file) × (length body ≡ 399)
+    amends-within =
+        let sized : bodyLength kind ≡ 399 = rw k in
+        let p = place-within n amends-some (en .1) in
+        (p .0, p .1, pre .sized ∙ sized)
+
+  module _ (not1 : kind ≡ 1 → ⊥) (not3 : kind ≡ 3 → ⊥) (n : ℕ) (en : (n ≡ seek file body held) × (n ≤ held)) where
+    pub cancels-some : 1 ≤ n
+    unfolding actionAnswer
+    cancels-some =
+        let e : actionAnswer file held kind body ≡ cancelAnswer file held body = rw (ne-eqb kind 1 not1, ne-eqb kind 3 not3) in
+        let live = cancel-live file body held (sym (ap (λ (x : Answer). x .code) e) ∙ pre .accepts) in
+        rw (en .0) (live-found file body held live)
+
+    pub cancels-within : (n - 1 ≤ 999) × ((n - 1) * 401 + 401 ≤ length file)
+    cancels-within = place-within n cancels-some (en .1)
+
+-- how many records stand behind an accepted action
+held-within : (file body : List ℕ) (held kind : ℕ) → Acceptable file held kind body → length file ≤ 400599 → (actionHeld held kind ≤ 999) × (actionHeld held kind * 401 ≤ length file)
+held-within file body held kind pre b = go (eqb kind 1) refl
+  where
+    go : (t : Bool) → eqb kind 1 ≡ t → (cond t (held + 1) held ≤ 999) × (cond t (held + 1) held * 401 ≤ length file)
+    go true e = let w = adds-within file body held kind pre (eqb-true kind 1 e) in (omega (arith, w .1), omega (arith, w .1))
+    go false e = (pre .few, pre .fits)
+
+-- ---- act
+pub acted-add : (file t body : List ℕ) (held kind : ℕ) → kind ≡ 1 → t ≡ withLine file held body → t ≡ actionFile file held kind body
+unfolding actionFile
+acted-add file t body held kind k e = rw (eq-eqb kind 1 k) e
+
+pub acted-amend : (file t body id : List ℕ) (held kind n : ℕ) → (kind ≡ 1 → ⊥) → kind ≡ 3 → id ≡ fieldOf body 1 → (n ≡ seek file id held) × (n ≤ held) → t ≡ withLine file (n - 1) body → t ≡ actionFile file held kind body
+unfolding actionFile
+acted-amend file t body id held kind n not1 k ei en e = rw (ne-eqb kind 1 not1, eq-eqb kind 3 k) (e ∙ rw (en .0, ei))
+
+pub acted-cancel : (file t body : List ℕ) (held kind n : ℕ) → (kind ≡ 1 → ⊥) → (kind ≡ 3 → ⊥) → (n ≡ seek file body held) × (n ≤ held) → t ≡ withCancelled file (n - 1) → t ≡ actionFile file held kind body
+unfolding actionFile
+acted-cancel file t body held kind n not1 not3 en e = rw (ne-eqb kind 1 not1, ne-eqb kind 3 not3) (e ∙ rw (en .0))
+
+-- ---- entries
+pub entry-short : (j : List ℕ) (end at size low high kind : ℕ) → end - at < size → false ≡ headStands j end at size low high kind
+entry-short j end at size low high kind h = rw (lt-leb size (end - at) h)
+
+pub entry-head : (j : List ℕ) (end at size low high kind : ℕ) → size ≤ end - at
+    → (eqb (getD j at 0) low && eqb (getD j (at + 1) 0) high && eqb (getD j (at + 2) 0) kind && eqb (getD j (at + 3) 0) 0) ≡ headStands j end at size low high kind
+entry-head j end at size low high kind h = rw (le-leb size (end - at) h)
+
+module _ (j : List ℕ) (end at : ℕ) (a : Bool) (ea : a ≡ headStands j end at 403 147 1 1) where
+  pub kind-one : a ≡ true → 1 ≡ kindAt j end at
+  unfolding kindAt
+  kind-one t = rw (← ea, t)
+
+  module _ (na : a ≡ false) (b : Bool) (eb : b ≡ headStands j end at 17 17 0 2) where
+    pub kind-two : b ≡ true → 2 ≡ kindAt j end at
+    unfolding kindAt
+    kind-two t = rw (← ea, na, ← eb, t)
+
+    module _ (nb : b ≡ false) (d : Bool) (ed : d ≡ headStands j end at 403 147 1 3) where
+      pub kind-three : d ≡ true → 3 ≡ kindAt j end at
+      unfolding kindAt
+      kind-three t = rw (← ea, na, ← eb, nb, ← ed, t)
+
+      pub kind-none : d ≡ false → 0 ≡ kindAt j end at
+      unfolding kindAt
+      kind-none t = rw (← ea, na, ← eb, nb, ← ed, t)
+
+abbrev kindBy : Bool → Bool → Bool → ℕ
+kindBy a b d = cond a 1 (cond b 2 (cond d 3 0))
+
+-- an entry ends by `end`
+pub entry-fits : (j : List ℕ) (end at k : ℕ) → k ≡ kindAt j end at → (k ≡ 0 → ⊥) → entryLength k ≤ end - at
+unfolding kindAt
+entry-fits j end at k ek n = rw ek (go (startsEntry j end at 1) (startsEntry j end at 2) (startsEntry j end at 3) refl refl refl (rw ek at n))
+  where
+    inside : (kind : ℕ) → startsEntry j end at kind ≡ true → entryLength kind ≤ end - at
+    inside kind e = by (leb (entryLength kind) (end - at)) _ refl e
+      where
+        by : (t x : Bool) → leb (entryLength kind) (end - at) ≡ t → cond t x false ≡ true → entryLength kind ≤ end - at
+        by true x q h = leb-true (entryLength kind) (end - at) q
+        by false x q h = absurd (clash false h refl)
+
+    go : (a b d : Bool) → startsEntry j end at 1 ≡ a → startsEntry j end at 2 ≡ b → startsEntry j end at 3 ≡ d → (kindBy a b d ≡ 0 → ⊥)
+        → entryLength (kindBy a b d) ≤ end - at
+    go true b d ea eb ed n = inside 1 ea
+    go false true d ea eb ed n = inside 2 eb
+    go false false true ea eb ed n = inside 3 ed
+    go false false false ea eb ed n = absurd (n refl)
+
+-- ---- step
+module _ (file journal : List ℕ) (end held used k : ℕ) (ek : k ≡ kindAt journal end used) where
+  pub no-entry : k ≡ 0 → Stepped file journal end held used (record { good = false; held = held; used = used; last = used }) file
+  unfolding stepAs
+  no-entry z = record { walks = rw (← ek, eq-eqb k 0 z); files = rw (← ek, eq-eqb k 0 z); from = refl; moves = λ g. absurd (clash false g refl) }
+
+  module _ (some : k ≡ 0 → ⊥) (n : ℕ) (en : (n ≡ bodyLength k) × (13 ≤ n) × (n ≤ 399)) where
+    -- what the code takes for the body
+    body-is : take (used + 4 + n - (used + 4)) (drop (used + 4) journal) ≡ bodyAt journal used k
+    body-is = rw (add-sub-cancel-left, en .0)
+
+    pub body-within : used ≤ end → end ≤ length journal → used + 4 + n ≤ length journal
+    body-within b w = omega (arith, entry-fits journal end used k ek some, en .0)
+
+    module _ (a : Answer) (ea : a ≡ actionAnswer file held k (take (used + 4 + n - (used + 4)) (drop (used + 4) journal))) where
+      here : actionAnswer file held k (bodyAt journal used k) ≡ a
+      here = sym (ea ∙ ap (actionAnswer file held k) body-is)
+
+      pub entry-refused : (a .code ≡ 0 → ⊥) → Stepped file journal end held used (record { good = false; held = held; used = used; last = used }) file
+      unfolding stepAs
+      entry-refused z = record { walks = rw (← ek, ne-eqb k 0 some, here, ne-eqb (a .code) 0 z); files = rw (← ek, ne-eqb k 0 some, here, ne-eqb (a .code) 0 z); from = refl; moves = λ g. absurd (clash false g refl) }
+
+      pub entry-acceptable : a .code ≡ 0 → Stepping file journal end held used → Acceptable file held k (take (used + 4 + n - (used + 4)) (drop (used + 4) journal))
+      entry-acceptable z pre =
+          let room : used + 4 + n ≤ length journal = body-within (pre .before) (pre .within) in
+          let long : length (take (used + 4 + n - (used + 4)) (drop (used + 4) journal)) ≡ n = mid-len (used + 4) (used + 4 + n) journal room ∙ add-sub-cancel-left (used + 4) n in
+          record { few = pre .few; fits = pre .fits; sized = long ∙ en .0; accepts = rw (← ea) z }
+
+      pub entry-done : (t : List ℕ) (h : ℕ) → a .code ≡ 0 → Stepping file journal end held used → t ≡ actionFile file held k (take (used + 4 + n - (used + 4)) (drop (used + 4) journal)) → h ≡ actionHeld held k
+          → Stepped file journal end held used (record { good = true; held = h; used = used + 4 + n; last = used }) t
+      unfolding stepAs
+      entry-done t h z pre et eh =
+          let file-is : t ≡ actionFile file held k (bodyAt journal used k) = et ∙ ap (actionFile file held k) body-is in
+          let next : used + 4 + n ≡ used + entryLength k = omega (arith, en .0) in
+          record { walks = rw (← ek, ne-eqb k 0 some, here, eq-eqb (a .code) 0 z, next, eh); files = rw (← ek, ne-eqb k 0 some, here, eq-eqb (a .code) 0 z) file-is; from = refl; moves = λ g. moved }
+        where
+          moved : Moved file end used (record { good = true; held = h; used = used + 4 + n; last = used })
+          moved =
+              let holds = held-within file (take (used + 4 + n - (used + 4)) (drop (used + 4) journal)) held k (entry-acceptable z pre) (pre .bounded) in
+              record { few = rw eh (holds .0); fits = rw eh (holds .1); forward = omega arith; before = omega (arith, entry-fits journal end used k ek some, en .0, pre .before) }

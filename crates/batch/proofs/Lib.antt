@@ -1,0 +1,4 @@
+pub mod ActionWays
+pub mod JournalWays
+pub mod ReplayWays
+pub mod GuardWays

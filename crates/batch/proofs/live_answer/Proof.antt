@@ -1,0 +1,44 @@
+-- `batch::live_answer` meets its contract.
+-- Assumes nothing.
+use borrow.Author.Needs.{needs}
+use Rattle.batch.proofs.ActionWays.{not-present, is-cancelled, is-live}
+use borrow.Author.Needs.{needs}
+use Rattle.batch.proofs.live_answer.Statement.{statement}
+use Rattle.batch.proofs.live_answer.Tie as tie
+
+seek-requires : tie.Need-seek-requires
+seek-requires c κs = search needs
+
+returns : tie.Need-returns
+returns c = search not-present
+
+sub-k : tie.Need-sub-k
+sub-k c = search needs
+
+mul-if2 : tie.Need-mul-if2
+mul-if2 c = search needs
+
+add-if2 : tie.Need-add-if2
+add-if2 c = search needs
+
+shared-slice-read-if2 : tie.Need-shared-slice-read-if2
+shared-slice-read-if2 c = search needs
+
+returns-2 : tie.Need-returns-2
+returns-2 c = search is-cancelled
+
+returns-3 : tie.Need-returns-3
+returns-3 c = is-live (c .before .before .before .before .before .before .args .file .now) (c .before .before .before .before .before .before .args .id .now) (c .before .before .before .before .before .before .args .held) (c .before .before .before .seek .result) (c .before .before .before .seek .ensures) (c .before .before .if1 .left) (c .if2 .left)
+
+pub live-answer-spec : {M : Type 1} → statement M
+live-answer-spec =
+    tie.close
+    (tie.spec
+    seek-requires
+    returns
+    sub-k
+    mul-if2
+    add-if2
+    shared-slice-read-if2
+    returns-2
+    returns-3)

@@ -1,0 +1,67 @@
+-- `batch::totals_over` meets its contract.
+-- Assumes nothing.
+use borrow.Author.Needs.{needs}
+use native.Mathlib.Omega.{arith}
+use mathlib.Core.Path.{_≡_}
+use Prim.Native.Nat.{_-_, _≤_}
+use Rattle.posting.specs.File.{totalsOver}
+use Rattle.batch.proofs.ReplayWays.{totals-start, totals-on, totals-end}
+use Rattle.batch.proofs.totals_over.Statement.{statement}
+use Rattle.batch.proofs.totals_over.Tie as tie
+
+abbrev Inv-loop : tie.InvT-loop
+Inv-loop file n t₀ i₀ t i = (i ≤ n) × (t ≡ totalsOver file i)
+
+abbrev μ-loop : tie.MeasureT-loop
+μ-loop file n t₀ i₀ t i = n - i
+
+loop-holds : tie.Need-loop-holds Inv-loop μ-loop
+loop-holds c = (omega arith, search totals-start)
+
+mul-a : tie.Need-mul-a Inv-loop μ-loop
+mul-a c = search needs
+
+add-e : tie.Need-add-e Inv-loop μ-loop
+add-e c = search needs
+
+sub-count-record : tie.Need-sub-count-record Inv-loop μ-loop
+sub-count-record c = search needs
+
+part-count-record-start : tie.Need-part-count-record-start Inv-loop μ-loop
+part-count-record-start c = search needs
+
+part-count-record-end : tie.Need-part-count-record-end Inv-loop μ-loop
+part-count-record-end c = search needs
+
+count-record-requires : tie.Need-count-record-requires Inv-loop μ-loop
+count-record-requires c κs = search needs
+
+add-i : tie.Need-add-i Inv-loop μ-loop
+add-i c = search needs
+
+loop-less : tie.Need-loop-less Inv-loop μ-loop
+loop-less c = search needs
+
+loop-again : tie.Need-loop-again Inv-loop μ-loop
+loop-again c = (omega arith, search totals-on)
+
+returns : tie.Need-returns Inv-loop μ-loop
+returns c = search totals-end
+
+pub totals-over-spec : {M : Type 1} → statement M
+totals-over-spec =
+    tie.close
+    (tie.spec
+    Inv-loop
+    μ-loop
+    loop-holds
+    mul-a
+    add-e
+    sub-count-record
+    part-count-record-start
+    part-count-record-end
+    count-record-requires
+    add-i
+    loop-less
+    loop-again
+    returns)

@@ -1,0 +1,5 @@
+pub mod Actions
+pub mod Journal
+pub mod Duties
+pub mod Batch
+pub mod Guards

@@ -1,0 +1,102 @@
+-- The answer to a whole file, in the paper's words: 211, then 213, then the first record that breaks a rule; otherwise 0 and the totals.
+-- Assumes nothing.
+use Prim.Native.Nat.{ℕ, zero, suc, _+_, _%_, _≤_, _<_}
+use mathlib.Core.Path.{_≡_, refl, sym, ap, _∙_}
+use mathlib.Core.Bool.{Bool, true, false, cond}
+use mathlib.Core.List.{List}
+use mathlib.Core.Logic.{_↔_}
+use native.Mathlib.Numerals.{add-one}
+use native.Mathlib.Omega.{arith}
+use borrow.Author.Tests.{eqb-true, eqb-false, leb-true, leb-false}
+use lib.Dec.{eqb, leb}
+use lib.ListN.{length}
+use Rattle.posting.specs.declared.FileAnswer.{FileAnswer}
+use Rattle.posting.specs.File.{lineAnswer, totalsOver, refused, passed, breakFrom, recordsIn, fileAnswer}
+use Rattle.posting.proofs.Ways.{Unbroken, unbroken-start, file-odd, file-long, file-breaks, file-on, file-passes}
+use Rattle.posting.proofs.Lines.{RightLine, line-right-exactly}
+
+-- the records from a up to b, without b, break no rule
+abbrev pub RightFrom : List ℕ → ℕ → ℕ → Type 0
+RightFrom file a b = (j : ℕ) → a ≤ j → j < b → lineAnswer file j .code ≡ 0
+
+right-more : (file : List ℕ) (a b : ℕ) → lineAnswer file a .code ≡ 0 → RightFrom file (a + 1) b → RightFrom file a b
+right-more file a b z r j l h = go (eqb j a) refl
+  where
+    go : (t : Bool) → eqb j a ≡ t → lineAnswer file j .code ≡ 0
+    go true e = rw (eqb-true j a e) z
+    go false e = let n = eqb-false j a e in r j (omega arith) h
+
+-- ---- the first break in n records from i on
+data Found (file : List ℕ) (good : FileAnswer) (n i : ℕ) (a : FileAnswer) : Type 0 where
+  none : RightFrom file i (i + n) → a ≡ good → Found file good n i a
+  first : (k : ℕ) → i ≤ k → k < i + n → RightFrom file i k → (lineAnswer file k .code ≡ 0 → ⊥)
+      → a ≡ refused (lineAnswer file k .code) (k + 1) (lineAnswer file k .place) → Found file good n i a
+
+found : (file : List ℕ) (good : FileAnswer) (n i : ℕ) → Found file good n i (breakFrom file good n i)
+unfolding breakFrom
+found file good zero i = none (λ j l h. absurd (omega arith)) refl
+found file good (suc n) i = go (eqb (lineAnswer file i .code) 0) refl (found file good n (i + 1))
+  where
+    go : (t : Bool) → eqb (lineAnswer file i .code) 0 ≡ t → {b : FileAnswer} → Found file good n (i + 1) b
+        → Found file good (suc n) i (cond t b (refused (lineAnswer file i .code) (i + 1) (lineAnswer file i .place)))
+    go true e (none r g) = none (right-more file i (i + suc n) (eqb-true _ 0 e) (λ j l h. r j l (omega arith))) g
+    go true e (first k l h r x g) = first k (omega arith) (omega arith) (right-more file i k (eqb-true _ 0 e) r) x g
+    go false e f = first i (omega arith) (omega arith) (λ j l h. absurd (omega arith)) (eqb-false _ 0 e) refl
+
+-- ---- the whole file
+pub data FileOutcome (file : List ℕ) (a : FileAnswer) : Type 0 where
+  no-multiple : (length file % 401 ≡ 0 → ⊥) → a ≡ refused 211 0 0 → FileOutcome file a
+  too-many : length file % 401 ≡ 0 → 999 < recordsIn file → a ≡ refused 213 0 0 → FileOutcome file a
+  first-break : length file % 401 ≡ 0 → recordsIn file ≤ 999 → (i : ℕ) → i < recordsIn file
+      → ((j : ℕ) → j < i → lineAnswer file j .code ≡ 0) → (lineAnswer file i .code ≡ 0 → ⊥)
+      → a ≡ refused (lineAnswer file i .code) (i + 1) (lineAnswer file i .place) → FileOutcome file a
+  no-break : length file % 401 ≡ 0 → recordsIn file ≤ 999 → ((i : ℕ) → i < recordsIn file → lineAnswer file i .code ≡ 0)
+      → a ≡ passed (totalsOver file (recordsIn file)) → FileOutcome file a
+
+pub file-outcome : (file : List ℕ) → FileOutcome file (fileAnswer file)
+unfolding fileAnswer
+file-outcome file = go (eqb (length file % 401) 0) refl (leb (recordsIn file) 999) refl (found file _ (recordsIn file) 0)
+  where
+    go : (s : Bool) → eqb (length file % 401) 0 ≡ s → (t : Bool) → leb (recordsIn file) 999 ≡ t
+        → {b : FileAnswer} → Found file (passed (totalsOver file (recordsIn file))) (recordsIn file) 0 b
+        → FileOutcome file (cond s (cond t b (refused 213 0 0)) (refused 211 0 0))
+    go false e t f b = no-multiple (eqb-false _ 0 e) refl
+    go true e false f b = too-many (eqb-true _ 0 e) (leb-false _ 999 f) refl
+    go true e true f (none r g) = no-break (eqb-true _ 0 e) (leb-true _ 999 f) (λ i h. r i (omega arith) (omega arith)) g
+    go true e true f (first k l h r x g) = first-break (eqb-true _ 0 e) (leb-true _ 999 f) k (omega arith) (λ j q. r j (omega arith) q) x g
+
+-- ---- and no other answer has such an outcome
+unbroken-to : (file : List ℕ) → length file % 401 ≡ 0 → recordsIn file ≤ 999 → (k : ℕ) → k ≤ recordsIn file → ((j : ℕ) → j < k → lineAnswer file j .code ≡ 0) → Unbroken file k
+unbroken-to file m l zero h r = unbroken-start file
+unbroken-to file m l (suc k) h r =
+    rw add-one at (file-on file m l k (omega arith) (unbroken-to file m l k (omega arith) (λ j q. r j (omega arith))) (lineAnswer file k) refl (r k (omega arith)))
+
+pub outcome-exactly : (file : List ℕ) (a : FileAnswer) → FileOutcome file a ↔ (a ≡ fileAnswer file)
+outcome-exactly file a = (only, λ e. rw e (file-outcome file))
+  where
+    only : FileOutcome file a → a ≡ fileAnswer file
+    only (no-multiple n e) = file-odd file a n e
+    only (too-many m h e) = file-long file a m h e
+    only (first-break m l i h b x e) = file-breaks file m l i h (unbroken-to file m l i (omega arith) b) (lineAnswer file i) refl a x e
+    only (no-break m l b e) = e ∙ file-passes file m l (recordsIn file) _ (omega arith) (omega arith) (unbroken-to file m l (recordsIn file) (omega arith) b) refl
+
+-- ---- code 0 exactly if all rules are kept
+pub record AllRight (file : List ℕ) : Type 0 where
+  pub multiple : length file % 401 ≡ 0
+  pub few : recordsIn file ≤ 999
+  pub lines : (i : ℕ) → i < recordsIn file → RightLine file i
+
+pub accepted-exactly : (file : List ℕ) → (fileAnswer file .code ≡ 0) ↔ AllRight file
+accepted-exactly file = go (file-outcome file)
+  where
+    coded : {a : FileAnswer} {c n p : ℕ} → a ≡ refused c n p → (c ≡ 0 → ⊥) → a .code ≡ 0 → ⊥
+    coded e n z = n (sym (ap (λ (x : FileAnswer). x .code) e) ∙ z)
+
+    go : {a : FileAnswer} → FileOutcome file a → (a .code ≡ 0) ↔ AllRight file
+    go (no-multiple n e) = (λ z. absurd (coded e (λ q. omega arith) z), λ r. absurd (n (r .multiple)))
+    go (too-many m l e) = (λ z. absurd (coded e (λ q. omega arith) z), λ r. absurd (omega (arith, r .few)))
+    go (first-break m l i h b x e) = (λ z. absurd (coded e x z), λ r. absurd (x (line-right-exactly file i .1 (r .lines i h))))
+    go (no-break m l b e) = (
+      λ z. record { multiple = m; few = l; lines = λ i h. line-right-exactly file i .0 (b i h) },
+      λ r. ap (λ (x : FileAnswer). x .code) e,
+    )
