@@ -1,3 +1,4 @@
+pub mod ReportWays
 pub mod Amounts
 pub mod Ways
 pub mod Lines

@@ -1,12 +1,11 @@
 -- The line of seven decimal numbers that the checking program prints.
 -- Assumes nothing.
 use Prim.Native.Nat.{ℕ}
-use mathlib.Core.Bool.{Bool, cond}
+use mathlib.Core.Bool.{cond}
 use mathlib.Core.Path.{_≡_}
 use mathlib.Core.List.{List, [], _∷_, _++_}
 use lib.ListN.{length}
 use lib.Dec.{leb, ltb}
-use Rattle.text.specs.declared.Answer.{Answer}
 use Rattle.text.specs.Answers.{answer, accepted}
 use Rattle.text.specs.Lists.{overlay}
 use Rattle.text.specs.Numbers.{decimal}
@@ -19,11 +18,15 @@ abbrev pub numbersOf : FileAnswer → List ℕ
 numbersOf a =
     a .code ∷ a .number ∷ a .place ∷ a .totals .live ∷ a .totals .cancelled ∷ a .totals .cash .0 ∷ a .totals .price .0 ∷ []
 
--- each number in decimal with the byte behind it: a space, and a line feed behind the last
+-- the byte behind a number: a space if more numbers follow, a line feed behind the last
+abbrev pub behind : List ℕ → ℕ
+behind [] = 10
+behind (m ∷ ns) = 32
+
+-- each number in decimal, with the byte behind it
 unfoldable pub line : List ℕ → List ℕ
 line [] = []
-line (n ∷ []) = decimal n ++ 10 ∷ []
-line (n ∷ m ∷ ns) = decimal n ++ 32 ∷ line (m ∷ ns)
+line (n ∷ ns) = decimal n ++ behind ns ∷ line ns
 
 abbrev pub reportOf : FileAnswer → List ℕ
 reportOf a = line (numbersOf a)

@@ -1,10 +1,14 @@
 // A whole K file: the first break of a rule, or the totals; and the line that reports it.
 ghost use mathlib.Core.Path.{_≡_};
 ghost use Prim.Native.Nat.{_+_, _*_, _≤_, _<_};
-ghost use lib.ListN.{length};
+ghost use mathlib.Core.List.{_∷_, _++_, []};
+ghost use lib.ListN.{length, drop};
 ghost use Rattle.text.specs.Promises.{Gives};
+ghost use Rattle.text.specs.Lists.{overlay};
+ghost use Rattle.text.specs.Numbers.{places, decimal};
 ghost use Rattle.posting.specs.File.{repeats, lineAnswer, noTotals, amountIn, withRecord, refused, fileAnswer};
 ghost use Rattle.posting.specs.Bounds.{Small, counted};
+ghost use Rattle.posting.specs.Report.{numbersOf, behind, line, Report, inputAnswer};
 use fields::Hellers;
 use fields::MoneyReading;
 use fields::StatusReading;
@@ -188,4 +192,114 @@ pub fn check(file: &[u8]) -> FileAnswer
         place: 0,
         totals,
     }
+}
+
+// ---- the line of seven numbers
+
+// Code, record, place, live, cancelled, haléře on delivery, haléře specified.
+fn numbers_of(a: FileAnswer) -> [u64; 7]
+    ensures { λ r. ⌜ r ≡ numbersOf a ⌝ }
+{
+    let t = a.totals;
+    [
+        a.code as u64,
+        a.number as u64,
+        a.place as u64,
+        t.live,
+        t.cancelled,
+        t.cash.0,
+        t.price.0,
+    ]
+}
+
+// How many bytes the line of these numbers has.
+fn line_length(numbers: &[u64]) -> usize
+    requires { ⌜ length (now numbers) ≤ 7 ⌝ }
+    ensures { λ r. ⌜ r ≡ length (line (now (numbers .entry))) ⌝ }
+{
+    let mut count: usize = 0;
+    let mut i = 0;
+    while i < numbers.len() {
+        count += text::places(numbers[i]) + 1;
+        i += 1;
+    }
+    count
+}
+
+// The byte behind number i.
+fn behind(numbers: &[u64], i: usize) -> u8
+    requires { ⌜ i < length (now numbers) ⌝ }
+    ensures { λ r. ⌜ r ≡ behind (drop (i + 1) (now (numbers .entry))) ⌝ }
+{
+    if i + 1 < numbers.len() { b' ' } else { b'\n' }
+}
+
+// Puts n in decimal from place `at` on, and a byte behind it; gives the place behind that.
+fn put_number(out: &mut [u8], at: usize, n: u64, b: u8) -> usize
+    requires { ⌜ at + places n < length (now out) ⌝ }
+    ensures { λ r. ⌜ (now (out .exit) ≡ overlay (now (out .entry)) at (decimal n ++ b ∷ [])) × (r ≡ at + places n + 1) ⌝ }
+{
+    let w = text::places(n);
+    let e = at + w;
+    text::put_digits(&mut out[at..e], n);
+    out[e] = b;
+    e + 1
+}
+
+// Puts the line of these numbers at the front.
+fn put_line(out: &mut [u8], numbers: &[u64])
+    requires { ⌜ length (line (now numbers)) ≤ length (now out) ⌝ }
+    ensures { λ _. ⌜ now (out .exit) ≡ overlay (now (out .entry)) 0 (line (now (numbers .entry))) ⌝ }
+{
+    let mut at = 0;
+    let mut i = 0;
+    while i < numbers.len() {
+        let b = behind(numbers, i);
+        at = put_number(out, at, numbers[i], b);
+        i += 1;
+    }
+}
+
+fn put_report(a: FileAnswer, out: &mut [u8]) -> Reported
+    ensures { λ r. ⌜ Report a (now (out .entry)) r (now (out .exit)) ⌝ }
+{
+    let numbers = numbers_of(a);
+    let n = line_length(&numbers);
+    if n > out.len() {
+        return Reported {
+            answer: Answer {
+                code: 236,
+                place: 0,
+            },
+            length: 0,
+        };
+    }
+    put_line(out, &numbers);
+    Reported {
+        answer: Answer { code: 0, place: 0 },
+        length: n,
+    }
+}
+
+// The line for a whole file, into a lent buffer.
+pub fn report(file: &[u8], out: &mut [u8]) -> Reported
+    ensures { λ r. ⌜ Report (fileAnswer (now (file .entry))) (now (out .entry)) r (now (out .exit)) ⌝ }
+{
+    put_report(check(file), out)
+}
+
+fn check_input(input: &[u8]) -> FileAnswer
+    ensures { λ r. ⌜ r ≡ inputAnswer (now (input .entry)) ⌝ }
+{
+    if input.len() > 64_160 {
+        return refused(213, 0, 0);
+    }
+    check(input)
+}
+
+// The same for what the checking program has read: above 64,160 bytes the line says 213.
+pub fn report_input(input: &[u8], out: &mut [u8]) -> Reported
+    ensures { λ r. ⌜ Report (inputAnswer (now (input .entry))) (now (out .entry)) r (now (out .exit)) ⌝ }
+{
+    put_report(check_input(input), out)
 }

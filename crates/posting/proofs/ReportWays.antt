@@ -1,0 +1,180 @@
+-- The line of seven numbers: each turn of the loops that count it and put it, and each way out of the calls.
+-- Assumes nothing.
+use Prim.Native.Nat.{ℕ, suc, _+_, _-_, _≤_, _<_}
+use mathlib.Core.Path.{_≡_, refl, sym, ap, _∙_}
+use mathlib.Core.Bool.{Bool, true, false}
+use mathlib.Core.List.{List, [], _∷_, _++_, append-assoc}
+use native.Mathlib.Nat.{add-assoc, add-zero}
+use native.Mathlib.Numerals.{add-one}
+use native.Mathlib.Omega.{arith}
+use borrow.Author.Tests.{lt-ltb, le-ltb, le-leb, lt-leb, leb-true}
+use borrow.Rule.Slice.PartMut.{putMid}
+use lib.Dec.{leb}
+use lib.ListN.{length, getD, take, drop, set, length-append, length-drop, take-append-drop}
+use lib.Seq.{take-at, drop-at, set-split, drop-drop, length-take-le}
+use Rattle.text.specs.Answers.{answer, accepted}
+use Rattle.text.specs.Lists.{overlay}
+use Rattle.text.specs.Numbers.{digits, places, placesUpTo, decimal}
+use Rattle.text.specs.Texts.{bytes}
+use Rattle.text.proofs.Lists.{step, ended}
+use Rattle.text.proofs.Numbers.{length-digits}
+use Rattle.fields.proofs.AmountWays.{overlay-put}
+use Rattle.posting.specs.declared.FileAnswer.{FileAnswer}
+use Rattle.posting.specs.declared.Reported.{Reported}
+use Rattle.posting.specs.File.{totalsOver, breakFrom, fileAnswer, refused}
+use Rattle.posting.specs.Report.{numbersOf, behind, line, reportOf, Report, inputAnswer}
+
+-- ---- one number on
+line-step : (ns : List ℕ) (i : ℕ) → i < length ns → line (drop i ns) ≡ decimal (getD ns i 0) ++ behind (drop (i + 1) ns) ∷ line (drop (i + 1) ns)
+unfolding line
+line-step ns i h = rw (step ns i h)
+
+line-ended : (ns : List ℕ) (i : ℕ) → length ns ≤ i → line (drop i ns) ≡ []
+unfolding line
+line-ended ns i h = rw (ended ns i h)
+
+-- ---- line_length
+module _ (ns : List ℕ) (i c r : ℕ) (known : c + length (line (drop i ns)) ≡ r) where
+  pub count-on : (w : ℕ) → i < length ns → (w ≡ places (getD ns i 0)) × (1 ≤ w) × (w ≤ 20) → c + (w + 1) + length (line (drop (i + 1) ns)) ≡ r
+  count-on w h e =
+      let n : ℕ = getD ns i 0 in
+      let here : length (line (drop i ns)) ≡ w + suc (length (line (drop (i + 1) ns))) =
+      rw (line-step ns i h, length-append (decimal n) (behind (drop (i + 1) ns) ∷ line (drop (i + 1) ns)), length-digits (places n) n, ← e .0) in
+      omega arith
+
+  pub count-ends : length ns ≤ i → c ≡ r
+  count-ends h =
+      let none : length (line (drop i ns)) ≡ 0 = rw (line-ended ns i h) in
+      omega arith
+
+-- ---- the byte behind
+pub behind-more : (ns : List ℕ) (i : ℕ) → i + 1 < length ns → 32 ≡ behind (drop (i + 1) ns)
+behind-more ns i h = rw (step ns (i + 1) h)
+
+pub behind-last : (ns : List ℕ) (i : ℕ) → length ns ≤ i + 1 → 10 ≡ behind (drop (i + 1) ns)
+behind-last ns i h = rw (ended ns (i + 1) h)
+
+-- ---- texts put into a list
+pub length-overlay : (s p : List ℕ) (a : ℕ) → a + length p ≤ length s → length (overlay s a p) ≡ length s
+length-overlay s p a h = simp (length-append, length-take-le a s (omega arith), length-drop) (omega arith)
+
+pub overlay-none : (s : List ℕ) (a : ℕ) → overlay s a [] ≡ s
+overlay-none s a = rw (add-zero a) (take-append-drop a s)
+
+-- one put behind another is both put at once
+pub overlay-join : (s p q : List ℕ) (a : ℕ) → a ≤ length s → overlay (overlay s a p) (a + length p) q ≡ overlay s a (p ++ q)
+overlay-join s p q a h =
+    let e : ℕ = a + length p in
+    let rest : List ℕ = drop e s in
+    let front : length (take a s ++ p) ≡ e = length-append (take a s) p ∙ ap (λ (k : ℕ). k + length p) (length-take-le a s h) in
+    let behind-both : drop (e + length q) ((take a s ++ p) ++ rest) ≡ drop (a + length (p ++ q)) s =
+    rw (← drop-drop (length q) e ((take a s ++ p) ++ rest), drop-at (take a s ++ p) rest e front, drop-drop (length q) e s, length-append p q, add-assoc a (length p) (length q)) in
+    rw (← append-assoc (take a s) p rest, take-at (take a s ++ p) rest e front, behind-both) (simp append-assoc)
+
+set-behind : (s p : List ℕ) (a b : ℕ) → a + length p < length s → set (overlay s a p) (a + length p) b ≡ overlay s a (p ++ b ∷ [])
+set-behind s p a b h =
+    let e : ℕ = a + length p in
+    let long : e < length (overlay s a p) = rw (length-overlay s p a (omega arith)) h in
+    set-split (overlay s a p) e b long ∙ ap (λ (k : ℕ). take e (overlay s a p) ++ b ∷ drop k (overlay s a p)) (sym (add-one e)) ∙ overlay-join s p (b ∷ []) a (omega arith)
+
+-- ---- put_number
+pub number-put : (s t : List ℕ) (a n b w : ℕ) → a + places n < length s → (w ≡ places n) × (1 ≤ w) × (w ≤ 20)
+    → t ≡ digits (length (take (a + w - a) (drop a s))) n → set (putMid a (a + w - a) s t) (a + w) b ≡ overlay s a (decimal n ++ b ∷ [])
+number-put s t a n b w room ew e =
+    let long : length (decimal n) ≡ w = length-digits (places n) n ∙ sym (ew .0) in
+    let put : putMid a (a + w - a) s t ≡ overlay s a (decimal n) = overlay-put s t a w n (omega arith) e ∙ rw (ew .0) in
+    rw (put, ← long) (set-behind s (decimal n) a b (omega arith))
+
+-- ---- put_line: what the rest will make of the buffer is what the whole line makes of it
+-- number i with the byte behind it
+abbrev item : List ℕ → ℕ → List ℕ
+item ns i = decimal (getD ns i 0) ++ behind (drop (i + 1) ns) ∷ []
+
+length-item : (ns : List ℕ) (i : ℕ) → length (item ns i) ≡ places (getD ns i 0) + 1
+length-item ns i =
+    let n : ℕ = getD ns i 0 in
+    length-append (decimal n) (behind (drop (i + 1) ns) ∷ []) ∙ rw (length-digits (places n) n)
+
+module _ (ns : List ℕ) (i a : ℕ) (o : List ℕ) (h : i < length ns) (room : a + length (line (drop i ns)) ≤ length o) where
+  joined : line (drop i ns) ≡ item ns i ++ line (drop (i + 1) ns)
+  joined = line-step ns i h ∙ sym (append-assoc (decimal (getD ns i 0)) (behind (drop (i + 1) ns) ∷ []) (line (drop (i + 1) ns)))
+
+  split-room : a + (places (getD ns i 0) + 1 + length (line (drop (i + 1) ns))) ≤ length o
+  split-room = rw (joined, length-append (item ns i) (line (drop (i + 1) ns)), length-item ns i) at room
+
+  pub room-number : a + places (getD ns i 0) < length o
+  room-number = omega (arith, split-room)
+
+  module _ (o′ : List ℕ) (a′ b : ℕ) (eb : b ≡ behind (drop (i + 1) ns))
+      (put : (o′ ≡ overlay o a (decimal (getD ns i 0) ++ b ∷ [])) × (a′ ≡ a + places (getD ns i 0) + 1)) where
+    now-is : o′ ≡ overlay o a (item ns i)
+    now-is = put .0 ∙ rw eb
+
+    pub put-long : (l : ℕ) → length o ≡ l → length o′ ≡ l
+    put-long l e = rw now-is (length-overlay o (item ns i) a (omega (arith, length-item ns i, split-room)) ∙ e)
+
+    pub put-room : a′ + length (line (drop (i + 1) ns)) ≤ length o′
+    put-room = omega (arith, put-long (length o) refl, put .1, split-room)
+
+    pub put-on : (r : List ℕ) → overlay o a (line (drop i ns)) ≡ r → overlay o′ a′ (line (drop (i + 1) ns)) ≡ r
+    put-on r e =
+        let at : a′ ≡ a + length (item ns i) = omega (arith, put .1, length-item ns i) in
+        rw (at, now-is, overlay-join o (item ns i) (line (drop (i + 1) ns)) a (omega (arith, split-room)), ← joined) e
+
+pub put-done : (ns o : List ℕ) (i a : ℕ) (r : List ℕ) → length ns ≤ i → overlay o a (line (drop i ns)) ≡ r → o ≡ r
+put-done ns o i a r h e = sym (overlay-none o a) ∙ (rw (line-ended ns i h) at e)
+
+-- ---- put_report
+module _ (a : FileAnswer) (ns s : List ℕ) (n : ℕ) (en : ns ≡ numbersOf a) (el : n ≡ length (line ns)) where
+  size : n ≡ length (reportOf a)
+  size = el ∙ ap (λ (l : List ℕ). length (line l)) en
+
+  pub report-short : length s < n → Report a s (record { answer = answer 236 0; length = 0 }) s
+  report-short h =
+      let t : leb (length (reportOf a)) (length s) ≡ false = lt-leb (length (reportOf a)) (length s) (omega (arith, size)) in
+      record { answers = rw t; counts = rw t; bytes = rw t }
+
+  pub report-put : (s′ : List ℕ) → n ≤ length s → s′ ≡ overlay s 0 (line ns) → Report a s (record { answer = accepted; length = n }) s′
+  report-put s′ h e =
+      let t : leb (length (reportOf a)) (length s) ≡ true = le-leb (length (reportOf a)) (length s) (omega (arith, size)) in
+      record { answers = rw t; counts = rw t size; bytes = rw t (e ∙ ap (λ (l : List ℕ). overlay s 0 (line l)) en) }
+
+pub report-of : (a a′ : FileAnswer) (s s′ : List ℕ) (r : Reported) → a′ ≡ a → Report a′ s r s′ → Report a s r s′
+report-of a a′ s s′ r e p = rw e at p
+
+-- what a caller needs to take the line off the buffer's front
+pub report-within : (a : FileAnswer) (s t : List ℕ) (r : Reported) → Report a s r t → r .length ≤ length t
+report-within a s t r p = go (leb (length (reportOf a)) (length s)) refl
+  where
+    go : (b : Bool) → leb (length (reportOf a)) (length s) ≡ b → r .length ≤ length t
+    go true e =
+        let fits = leb-true (length (reportOf a)) (length s) e in
+        let bytes-are : t ≡ overlay s 0 (reportOf a) = rw e at (p .bytes) in
+        let count : r .length ≡ length (reportOf a) = rw e at (p .counts) in
+        omega (arith, ap length bytes-are, length-overlay s (reportOf a) 0 (omega arith))
+    go false e = let none : r .length ≡ 0 = rw e at (p .counts) in omega arith
+
+pub report-front : (a : FileAnswer) (s t : List ℕ) (r : Reported) → Report a s r t → r .length ≡ length (take (r .length) t)
+report-front a s t r p = sym (length-take-le (r .length) t (report-within a s t r p))
+
+-- ---- check_input
+pub input-long : (input : List ℕ) (r : FileAnswer) → 64160 < length input → r ≡ refused 213 0 0 → r ≡ inputAnswer input
+unfolding inputAnswer
+input-long input r h e = e ∙ rw (lt-ltb 64160 (length input) h)
+
+pub input-taken : (input : List ℕ) (r : FileAnswer) → length input ≤ 64160 → r ≡ fileAnswer input → r ≡ inputAnswer input
+unfolding inputAnswer
+input-taken input r h e = e ∙ rw (le-ltb 64160 (length input) h)
+
+-- ---- the whole outputs that the paper gives
+pub no-input : reportOf (inputAnswer []) ≡ bytes "0 0 0 0 0 0 0" ++ 10 ∷ []
+unfolding inputAnswer fileAnswer breakFrom totalsOver line digits placesUpTo bytes
+no-input = refl
+
+pub one-byte : reportOf (inputAnswer (65 ∷ [])) ≡ bytes "211 0 0 0 0 0 0" ++ 10 ∷ []
+unfolding inputAnswer fileAnswer line digits placesUpTo bytes
+one-byte = refl
+
+pub long-input : (input : List ℕ) → 64160 < length input → reportOf (inputAnswer input) ≡ bytes "213 0 0 0 0 0 0" ++ 10 ∷ []
+unfolding line digits placesUpTo bytes
+long-input input h = rw (← input-long input (refused 213 0 0) h refl)
