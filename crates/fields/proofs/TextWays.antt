@@ -2,7 +2,7 @@
 -- Assumes nothing.
 use Prim.Native.Nat.{ℕ, zero, suc, _+_, _-_, _≤_, _<_}
 use mathlib.Core.Path.{_≡_, refl, sym, ap, _∙_}
-use mathlib.Core.Bool.{Bool, true, false, cond, not, _&&_, _||_, and-eq-true-iff, and-false, and-true, and-assoc, or-false}
+use mathlib.Core.Bool.{Bool, true, false, cond, not, _&&_, _||_, and-eq-true-iff, and-false, or-false}
 use mathlib.Core.List.{List, [], _∷_}
 use native.Mathlib.Omega.{arith}
 use native.Mathlib.Nat.{sub-zero}
@@ -32,16 +32,6 @@ text-test b = go (leb b 126) (eqb b 127) refl refl
         let high : 126 < b = leb-false b 126 ep in
         let other : b ≡ 127 → ⊥ = eqb-false b 127 eq in
         rw (eq, ep, le-leb 32 b (omega arith), le-leb 128 b (omega arith))
-
--- ---- all_text
-module _ (f : List ℕ) (i : ℕ) (r good : Bool) (known : (good && every isText (drop i f)) ≡ r) where
-  pub text-on : (b : Bool) → i < length f → b ≡ isText (getD f i 0) → ((good && b) && every isText (drop (i + 1) f)) ≡ r
-  unfolding every
-  text-on b h e = and-assoc good b (every isText (drop (i + 1) f)) ∙ rw e (rw (step f i h) at known)
-
-  pub text-ends : length f ≤ i → good ≡ r
-  unfolding every
-  text-ends h = sym (and-true good) ∙ (rw (ended f i h) at known)
 
 -- ---- filled: only spaces from n on
 module _ (f : List ℕ) (n : ℕ) (h : 0 < n) (l : n ≤ length f) (known : isBlank (drop n f) ≡ true) where

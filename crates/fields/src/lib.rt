@@ -125,13 +125,14 @@ fn is_text(b: u8) -> bool
 fn all_text(f: &[u8]) -> bool
     ensures { λ r. ⌜ r ≡ every isText (now (f .entry)) ⌝ }
 {
-    let mut good = true;
     let mut i = 0;
     while i < f.len() {
-        good = good & is_text(f[i]);
+        if !is_text(f[i]) {
+            return false;
+        }
         i += 1;
     }
-    good
+    true
 }
 
 // How many bytes stand before the spaces at the end.
