@@ -2,13 +2,14 @@
 -- Assumes nothing.
 use Prim.Native.Nat.{ℕ, zero, suc, _+_, _-_, _≤_, _<_}
 use mathlib.Core.Path.{_≡_, refl, sym, ap, _∙_}
-use mathlib.Core.Bool.{Bool, true, false, cond, not, _&&_, _||_, and-eq-true-iff, and-false}
+use mathlib.Core.Bool.{Bool, true, false, cond, not, _&&_, _||_, and-eq-true-iff, and-false, or-false}
 use mathlib.Core.List.{List, [], _∷_}
 use native.Mathlib.Omega.{arith}
-use borrow.Author.Tests.{eq-eqb, ne-eqb, lt-ltb, eqb-true, leb-true, leb-false, not-true, not-false}
+use native.Mathlib.Nat.{sub-zero}
+use borrow.Author.Tests.{eq-eqb, ne-eqb, lt-ltb, le-leb, lt-leb, eqb-true, eqb-false, leb-true, leb-false, not-true, not-false}
 use lib.Dec.{eqb, leb, ltb}
 use lib.ListN.{length, getD, take, drop, length-drop, List·getD-eq-default}
-use lib.Seq.{take-all}
+use lib.Seq.{take-all, drop-length}
 use Rattle.text.specs.Bytes.{every, isBlank, run}
 use Rattle.text.specs.Lists.{part}
 use Rattle.text.proofs.Lists.{step, ended}
@@ -16,55 +17,66 @@ use Rattle.fields.specs.declared.TextReading.the-variants.{Absent, Value
 use Rattle.fields.specs.Frame.{framed}
 use Rattle.fields.specs.Texts.{isText, filled, readText, isPlain, contains, atIn, behindAt, isHost, isMail, mailEnd, readMail}
 use Rattle.fields.proofs.Frames.{frame-good, frame-bad}
+use Rattle.fields.proofs.TextLaws.{filled-blank, filled-exactly}
 
-pub end-space : (b next end : ℕ) → b ≡ 32 → end ≡ cond (eqb b 32) end next
-end-space b next end e = rw (eq-eqb b 32 e)
-
-pub end-here : (b next end : ℕ) → (b ≡ 32 → ⊥) → next ≡ cond (eqb b 32) end next
-end-here b next end n = rw (ne-eqb b 32 n)
-
--- ---- text_length: where the text ends for all that is seen, and what is left
-abbrev pub endFrom : ℕ → ℕ → List ℕ → ℕ
-endFrom end i s = cond (isBlank s) end (i + filled s)
-
-filled-blank : (s : List ℕ) → isBlank s ≡ true → filled s ≡ 0
-unfolding filled
-filled-blank [] e = refl
-filled-blank (b ∷ s) e = rw e
-
-end-on : (end i b : ℕ) (s : List ℕ) → endFrom end i (b ∷ s) ≡ endFrom (cond (eqb b 32) end (i + 1)) (i + 1) s
-unfolding every filled
-end-on end i b s = go (eqb b 32) (isBlank s) refl refl
+-- ---- is_text
+pub text-test : (b : ℕ) → (leb 32 b && not (eqb b 127)) ≡ isText b
+text-test b = go (leb b 126) (eqb b 127) refl refl
   where
-    go : (p q : Bool) → eqb b 32 ≡ p → isBlank s ≡ q → cond (p && q) end (i + cond (p && q) 0 (suc (filled s))) ≡ cond q (cond p end (i + 1)) (i + 1 + filled s)
-    go true true ep eq = refl
-    go true false ep eq = omega arith
-    go false true ep eq = omega (arith, filled-blank s eq)
-    go false false ep eq = omega arith
+    go : (p q : Bool) → leb b 126 ≡ p → eqb b 127 ≡ q → (leb 32 b && not (eqb b 127)) ≡ isText b
+    go true q ep eq =
+        let low : b ≤ 126 = leb-true b 126 ep in
+        rw (ne-eqb b 127 (λ e. omega arith), ep, lt-leb 128 b (omega arith)) (sym (or-false (leb 32 b && true)))
+    go false true ep eq = rw (eqb-true b 127 eq)
+    go false false ep eq =
+        let high : 126 < b = leb-false b 126 ep in
+        let other : b ≡ 127 → ⊥ = eqb-false b 127 eq in
+        rw (eq, ep, le-leb 32 b (omega arith), le-leb 128 b (omega arith))
 
-module _ (f : List ℕ) (i : ℕ) (h : i < length f) (b : Bool) (eb : b ≡ isText (getD f i 0)) where
-  pub text-fails : every isText (drop i f) ≡ every isText f → not b ≡ true → 0 ≡ cond (every isText f) (filled f) 0
+-- ---- filled: only spaces from n on
+module _ (f : List ℕ) (n : ℕ) (h : 0 < n) (l : n ≤ length f) (known : isBlank (drop n f) ≡ true) where
+  pub filled-here : (getD f (n - 1) 0 ≡ 32 → ⊥) → n ≡ filled f
+  filled-here o = sym (filled-exactly f n .1 (record { some = h; within = l; last = o; behind = known }) .1)
+
+  pub filled-down : getD f (n - 1) 0 ≡ 32 → isBlank (drop (n - 1) f) ≡ true
   unfolding every
-  text-fails known n = rw (← known, step f i h, ← eb, not-true b n)
+  filled-down e =
+      let back : n - 1 + 1 ≡ n = omega arith in
+      rw (step f (n - 1) (omega arith), eq-eqb (getD f (n - 1) 0) 32 e, back) known
 
-  pub text-on : every isText (drop i f) ≡ every isText f → not b ≡ false → every isText (drop (i + 1) f) ≡ every isText f
-  unfolding every
-  text-on known n = rw (step f i h, ← eb, not-false b n) at known
-
-pub text-end-on : (f : List ℕ) (end i next r : ℕ) → i < length f → endFrom end i (drop i f) ≡ r → next ≡ cond (eqb (getD f i 0) 32) end (i + 1) → endFrom next (i + 1) (drop (i + 1) f) ≡ r
-text-end-on f end i next r h known e = rw e (sym (end-on end i (getD f i 0) (drop (i + 1) f)) ∙ rw (← step f i h) known)
-
-pub text-start : (f : List ℕ) → endFrom 0 0 (drop 0 f) ≡ filled f
-text-start f = go (isBlank f) refl
-  where
-    go : (q : Bool) → isBlank f ≡ q → cond q 0 (0 + filled f) ≡ filled f
-    go true e = sym (filled-blank f e)
-    go false e = omega arith
-
-pub text-ends : (f : List ℕ) (end i : ℕ) → length f ≤ i → every isText (drop i f) ≡ every isText f → endFrom end i (drop i f) ≡ filled f
-    → end ≡ cond (every isText f) (filled f) 0
+pub filled-start : (f : List ℕ) → isBlank (drop (length f) f) ≡ true
 unfolding every
-text-ends f end i h all known = rw (← all, ← known, ended f i h)
+filled-start f = rw drop-length
+
+pub filled-none : (f : List ℕ) (n : ℕ) → n ≤ 0 → isBlank (drop n f) ≡ true → n ≡ filled f
+filled-none f n h known = let z : n ≡ 0 = omega arith in rw z (sym (filled-blank f (rw z at known)))
+
+-- ---- text_length: the spaces at the end are text
+blank-text : (s : List ℕ) → isBlank s ≡ true → every isText s ≡ true
+unfolding every
+blank-text [] e = refl
+blank-text (b ∷ s) e =
+    let both = and-eq-true-iff (eqb b 32) (isBlank s) .0 e in
+    rw (eqb-true b 32 (both .0), blank-text s (both .1))
+
+front-text : (s : List ℕ) → every isText (take (filled s) s) ≡ every isText s
+unfolding every filled
+front-text [] = refl
+front-text (b ∷ s) = go (isBlank (b ∷ s)) refl (front-text s)
+  where
+    go : (q : Bool) → isBlank (b ∷ s) ≡ q → every isText (take (filled s) s) ≡ every isText s → every isText (take (cond q 0 (suc (filled s))) (b ∷ s)) ≡ every isText (b ∷ s)
+    go true e later = sym (blank-text (b ∷ s) e)
+    go false e later = rw later
+
+module _ (f : List ℕ) (n : ℕ) (t : Bool) (en : n ≡ filled f) (et : t ≡ every isText (take (n - 0) (drop 0 f))) where
+  front-is : t ≡ every isText f
+  front-is = et ∙ rw (sub-zero n, en) (front-text f)
+
+  pub text-whole : t ≡ true → n ≡ cond (every isText f) (filled f) 0
+  text-whole e = rw (← front-is, e) en
+
+  pub text-broken : t ≡ false → 0 ≡ cond (every isText f) (filled f) 0
+  text-broken e = rw (← front-is, e)
 
 -- ---- read_text
 filled-some : (s : List ℕ) → isBlank s ≡ false → 0 < filled s

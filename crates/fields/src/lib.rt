@@ -115,34 +115,46 @@ pub enum TextReading {
     Malformed,
 }
 
+// Bytes are below 256, so this is 20h to 7Eh or 80h to FFh.
 fn is_text(b: u8) -> bool
     ensures { λ r. ⌜ r ≡ isText b ⌝ }
 {
-    (32 <= b) & (b <= 126) | (128 <= b)
+    (32 <= b) & (b != 127)
 }
 
-// Where a text ends, once the byte b before place `next` is seen.
-fn end_behind(b: u8, next: usize, end: usize) -> usize
-    ensures { λ r. ⌜ r ≡ cond (eqb b 32) end next ⌝ }
+fn all_text(f: &[u8]) -> bool
+    ensures { λ r. ⌜ r ≡ every isText (now (f .entry)) ⌝ }
 {
-    if b == b' ' { end } else { next }
+    let mut i = 0;
+    while i < f.len() {
+        if !is_text(f[i]) {
+            return false;
+        }
+        i += 1;
+    }
+    true
+}
+
+// How many bytes stand before the spaces at the end.
+fn filled(f: &[u8]) -> usize
+    ensures { λ r. ⌜ (r ≡ filled (now (f .entry))) × (r ≤ length (now (f .entry))) ⌝ }
+{
+    let mut n = f.len();
+    while 0 < n {
+        if f[n - 1] != b' ' {
+            return n;
+        }
+        n -= 1;
+    }
+    n
 }
 
 // How many bytes stand before the spaces at the end; 0 where some byte is no text.
 fn text_length(f: &[u8]) -> usize
     ensures { λ r. ⌜ r ≡ cond (every isText (now (f .entry))) (filled (now (f .entry))) 0 ⌝ }
 {
-    let mut end = 0;
-    let mut i = 0;
-    while i < f.len() {
-        let b = f[i];
-        if !is_text(b) {
-            return 0;
-        }
-        i += 1;
-        end = end_behind(b, i, end);
-    }
-    end
+    let n = filled(f);
+    if all_text(&f[0..n]) { n } else { 0 }
 }
 
 // Reads a text field of so many bytes.
