@@ -10,11 +10,9 @@ use native.Mathlib.Omega.{arith}
 use borrow.Author.Tests.{eq-eqb, ne-eqb, le-leb, lt-leb, not-true, not-false}
 use lib.Dec.{eqb, leb}
 use lib.ListN.{length, getD, take, drop}
-use lib.Seq.{getD-take, getD-drop}
 use Rattle.text.specs.declared.Answer.{Answer}
 use Rattle.text.specs.Answers.{answer, accepted}
 use Rattle.text.specs.Lists.{sameBytes}
-use Rattle.text.proofs.Lists.{same-at}
 use Rattle.record.specs.Columns.{orElse}
 use Rattle.record.specs.Rules.{recordAnswer}
 use Rattle.posting.specs.declared.FileAnswer.{FileAnswer}
@@ -28,18 +26,6 @@ refused-is c n p t e = rw e
 pub from-start : (file : List ℕ) (i k : ℕ) → take (i * 401 + k - i * 401) (drop (i * 401) file) ≡ take k (drop (i * 401) file)
 from-start file i k = rw add-sub-cancel-left
 
--- ---- same_id
-pub id-differs : (k : ℕ) → k < 13 → (file : List ℕ) (a b : ℕ) → (getD file (a + k) 0 ≡ getD file (b + k) 0 → ⊥)
-    → false ≡ sameBytes (take 13 (drop a file)) (take 13 (drop b file))
-id-differs k h file a b n = sym (same-at (take 13 (drop a file)) (take 13 (drop b file)) k (λ e. n (sym (here a) ∙ e ∙ here b)))
-  where
-    here : (p : ℕ) → getD (take 13 (drop p file)) k 0 ≡ getD file (p + k) 0
-    here p = rw (getD-take 13 (drop p file) k 0 h, getD-drop)
-
-pub ids-compared : (file : List ℕ) (a b : ℕ) (r : Bool) → r ≡ sameBytes (take (a + 13 - a) (drop a file)) (take (b + 13 - b) (drop b file))
-    → r ≡ sameBytes (take 13 (drop a file)) (take 13 (drop b file))
-ids-compared file a b r e = e ∙ rw (add-sub-cancel-left a 13, add-sub-cancel-left b 13)
-
 -- ---- earlier: one record down
 repeats-down : (file : List ℕ) (i j : ℕ) → 0 < j → repeats file i j ≡ (sameBytes (idAt file (j - 1)) (idAt file i) || repeats file i (j - 1))
 unfolding repeats
@@ -47,9 +33,9 @@ repeats-down file i zero h = absurd (omega arith)
 repeats-down file i (suc j) h = let e : suc j - 1 ≡ j = omega arith in rw e
 
 module _ (file : List ℕ) (i j : ℕ) (r b : Bool) (known : repeats file i j ≡ r) (h : 0 < j)
-    (eb : b ≡ sameBytes (idAt file (j - 1)) (idAt file i)) where
+    (eb : b ≡ sameBytes (take ((j - 1) * 401 + 13 - (j - 1) * 401) (drop ((j - 1) * 401) file)) (take (i * 401 + 13 - i * 401) (drop (i * 401) file))) where
   down : (b || repeats file i (j - 1)) ≡ r
-  down = rw eb (sym (repeats-down file i j h) ∙ known)
+  down = rw (eb, from-start file (j - 1) 13, from-start file i 13) (sym (repeats-down file i j h) ∙ known)
 
   pub repeats-here : b ≡ true → true ≡ r
   repeats-here t = rw t at down

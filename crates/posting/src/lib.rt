@@ -2,9 +2,9 @@
 ghost use mathlib.Core.Path.{_≡_};
 ghost use Prim.Native.Nat.{_+_, _*_, _≤_, _<_};
 ghost use mathlib.Core.List.{_∷_, _++_, []};
-ghost use lib.ListN.{length, take, drop};
+ghost use lib.ListN.{length, drop};
 ghost use Rattle.text.specs.Promises.{Gives};
-ghost use Rattle.text.specs.Lists.{overlay, sameBytes};
+ghost use Rattle.text.specs.Lists.{overlay};
 ghost use Rattle.text.specs.Numbers.{places, decimal};
 ghost use Rattle.posting.specs.File.{repeats, lineAnswer, noTotals, amountIn, withRecord, refused, fileAnswer};
 ghost use Rattle.posting.specs.Bounds.{Small, counted};
@@ -60,30 +60,18 @@ fn refused(code: u32, number: u32, place: u32) -> FileAnswer
     }
 }
 
-// Whether the identifiers at places a and b are the same. Most differ in the last digits, so two of these are looked at first.
-fn same_id(file: &[u8], a: usize, b: usize) -> bool
-    requires { ⌜ (a + 13 ≤ length (now file)) × (b + 13 ≤ length (now file)) ⌝ }
-    ensures { λ r. ⌜ r ≡ sameBytes (take 13 (drop a (now (file .entry)))) (take 13 (drop b (now (file .entry)))) ⌝ }
-{
-    if file[a + 10] != file[b + 10] {
-        return false;
-    }
-    if file[a + 9] != file[b + 9] {
-        return false;
-    }
-    ident::same(&file[a..a + 13], &file[b..b + 13])
-}
-
 // Whether one of the records before record i has its identifier.
 fn earlier(file: &[u8], i: usize) -> bool
     requires { ⌜ (i < 1000) × (i * 401 + 401 ≤ length (now file)) ⌝ }
     ensures { λ r. ⌜ r ≡ repeats (now (file .entry)) i i ⌝ }
 {
-    let id = i * 401;
+    let at = i * 401;
+    let id = &file[at..at + 13];
     let mut j = i;
     while 0 < j {
         j -= 1;
-        if same_id(file, j * 401, id) {
+        let b = j * 401;
+        if ident::same(&file[b..b + 13], id) {
             return true;
         }
     }

@@ -2,7 +2,7 @@
 -- Assumes nothing.
 use Prim.Native.Nat.{ℕ, zero, suc, _+_, _-_, _≤_, _<_}
 use mathlib.Core.Path.{_≡_, refl, ap, ap₂}
-use mathlib.Core.Bool.{Bool, true, false, and-eq-true-iff}
+use mathlib.Core.Bool.{true, and-eq-true-iff}
 use mathlib.Core.Logic.{_↔_}
 use mathlib.Core.List.{List, [], _∷_, _++_}
 use native.Mathlib.Numerals.{add-one}
@@ -61,11 +61,3 @@ same-eq (x ∷ s) (y ∷ t) e =
 -- `sameBytes` says that two lists are equal
 pub same-exactly : (s t : List ℕ) → (sameBytes s t ≡ true) ↔ (s ≡ t)
 same-exactly s t = (same-eq s t, λ e. rw e (same-refl t))
-
--- lists that differ at some place
-pub same-at : (s t : List ℕ) (k : ℕ) → (getD s k 0 ≡ getD t k 0 → ⊥) → sameBytes s t ≡ false
-same-at s t k n = go (sameBytes s t) refl
-  where
-    go : (b : Bool) → sameBytes s t ≡ b → b ≡ false
-    go true e = absurd (n (ap (λ (r : List ℕ). getD r k 0) (same-eq s t e)))
-    go false e = refl
