@@ -3,3 +3,4 @@ pub mod Journal
 pub mod Duties
 pub mod Batch
 pub mod Guards
+pub mod History

@@ -21,7 +21,8 @@ use Rattle.record.proofs.Order.{noneBroken, accepted-exactly as record-accepted
 use Rattle.posting.specs.File.{recordAt, passed, totalsOver, recordsIn, fileAnswer}
 use Rattle.posting.proofs.Lines.{clash, line-right-exactly}
 use Rattle.posting.proofs.FirstBreak.{AllRight, no-break, outcome-exactly, accepted-exactly}
-use Rattle.posting.proofs.RecordList.{upTo, kept, kept-last, isLive, isCancelled, live, cancelled, lineAt, lines, records, totalsOf, totals-are-sums, record-wide, line-is, records-tile}
+use Rattle.posting.specs.Sums.{kept, isLive, isCancelled, live, cancelled, totalsOf}
+use Rattle.posting.proofs.RecordList.{upTo, kept-last, lineAt, lines, records, totals-are-sums, record-wide, line-is, records-tile}
 
 -- ---- a field 2 to 26 of a record that keeps the table is not malformed
 no-flag : (bs : List Bool) (p k : ℕ) → anyCase (placesFrom p bs) ≡ false → getD bs k false ≡ false

@@ -1,3 +1,4 @@
 pub mod File
 pub mod Bounds
 pub mod Report
+pub mod Sums

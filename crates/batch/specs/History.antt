@@ -1,0 +1,188 @@
+-- The history of a batch, in the paper's words: actions, the records that they make, the rules over those records, and what stands after a run of calls.
+-- No buffer, count or replay is in the rules: a batch is its list of standing actions.
+-- Assumes nothing.
+use Prim.Native.Nat.{ℕ, _+_, _-_, _/_}
+use mathlib.Core.Bool.{Bool, true, false, cond, _&&_, _||_}
+use mathlib.Core.Path.{_≡_}
+use mathlib.Core.List.{List, [], _∷_, _++_, map}
+use lib.ListN.{length, set}
+use lib.Dec.{eqb, ltb, leb}
+use Rattle.text.specs.declared.Answer.{Answer}
+use Rattle.text.specs.Answers.{answer, accepted}
+use Rattle.text.specs.Lists.{sameBytes}
+use Rattle.ident.specs.Identifier.{rightId}
+use Rattle.layout.specs.Widths.{joined}
+use Rattle.layout.specs.Layout.{fieldOf}
+use Rattle.record.specs.Columns.{orElse}
+use Rattle.record.specs.Rules.{recordAnswer}
+use Rattle.posting.specs.Sums.{totalsOf}
+use Rattle.batch.specs.Actions.{idOf, lineOf}
+use Rattle.batch.specs.Journal.{bodyLength, entryLength, entry, zeros}
+use Rattle.batch.specs.Batch.{Batch, batchOf, countsOf, Call, Open, Add, Amend, Cancel, Undo, answerTo, after}
+
+-- ---- actions, each with the record or the identifier that it carries
+pub data Action : Type 0 where
+  Addition : List ℕ → Action
+  Amendment : List ℕ → Action
+  Cancellation : List ℕ → Action
+
+abbrev pub callOf : Action → Call
+callOf (Addition rec) = Add rec
+callOf (Amendment rec) = Amend rec
+callOf (Cancellation id) = Cancel id
+
+-- ---- the records that a list of actions makes
+-- status "0 ", and whether a record has it
+abbrev pub withdrawn : List ℕ → List ℕ
+withdrawn rec = set (set rec 340 48) 341 32
+
+abbrev pub isWithdrawn : List ℕ → Bool
+isWithdrawn rec = sameBytes (fieldOf rec 19) (48 ∷ 32 ∷ [])
+
+abbrev pub hasId : List ℕ → List ℕ → Bool
+hasId id rec = sameBytes (idOf rec) id
+
+-- the record with this identifier replaced where it stands, and cancelled
+abbrev pub replacedBy : List ℕ → List ℕ → List ℕ
+replacedBy new rec = cond (hasId (idOf new) rec) new rec
+
+abbrev pub withdrawnFor : List ℕ → List ℕ → List ℕ
+withdrawnFor id rec = cond (hasId id rec) (withdrawn rec) rec
+
+-- add puts a record behind the last, amend replaces it where it stands, cancel sets its status
+abbrev pub recordsAfter : List (List ℕ) → Action → List (List ℕ)
+recordsAfter recs (Addition rec) = recs ++ rec ∷ []
+recordsAfter recs (Amendment rec) = map (replacedBy rec) recs
+recordsAfter recs (Cancellation id) = map (withdrawnFor id) recs
+
+abbrev pub recordsFrom : List (List ℕ) → List Action → List (List ℕ)
+recordsFrom recs [] = recs
+recordsFrom recs (a ∷ xs) = recordsFrom (recordsAfter recs a) xs
+
+abbrev pub recordsOf : List Action → List (List ℕ)
+recordsOf xs = recordsFrom [] xs
+
+-- ---- the rules, in the order of the table of refusals
+unfoldable pub some : (List ℕ → Bool) → List (List ℕ) → Bool
+some test [] = false
+some test (rec ∷ recs) = test rec || some test recs
+
+-- identifier present, cancelled or not; that consignment is cancelled
+abbrev pub isPresent : List (List ℕ) → List ℕ → Bool
+isPresent recs id = some (hasId id) recs
+
+abbrev pub isCancelledThere : List (List ℕ) → List ℕ → Bool
+isCancelledThere recs id = some (λ rec. hasId id rec && isWithdrawn rec) recs
+
+-- 232, 233: amend, cancel
+abbrev pub liveRule : List (List ℕ) → List ℕ → Answer
+liveRule recs id = cond (isPresent recs id) (cond (isCancelledThere recs id) (answer 233 0) accepted) (answer 232 0)
+
+-- the table, then 2, 232, 233 and 230, with so many places
+unfoldable pub actionRule : List (List ℕ) → ℕ → Action → Answer
+actionRule recs places (Addition rec) =
+    orElse (recordAnswer true rec) (cond (isPresent recs (idOf rec)) (answer 2 1) (cond (ltb (length recs) places) accepted (answer 230 0)))
+actionRule recs places (Amendment rec) = orElse (recordAnswer true rec) (liveRule recs (idOf rec))
+actionRule recs places (Cancellation id) = cond (rightId id) (liveRule recs id) (answer 1 1)
+
+abbrev pub kindOf : Action → ℕ
+kindOf (Addition rec) = 1
+kindOf (Amendment rec) = 3
+kindOf (Cancellation id) = 2
+
+abbrev pub bodyOf : Action → List ℕ
+bodyOf (Addition rec) = rec
+bodyOf (Amendment rec) = rec
+bodyOf (Cancellation id) = id
+
+-- 236 first, and last 231, with so many journal bytes left
+unfoldable pub entryRule : List (List ℕ) → ℕ → ℕ → Action → Answer
+entryRule recs places room a =
+    cond (eqb (length (bodyOf a)) (bodyLength (kindOf a)))
+    (orElse (actionRule recs places a) (cond (leb (entryLength (kindOf a)) room) accepted (answer 231 0)))
+    (answer 236 0)
+
+-- undo: 234 where no action stands
+abbrev pub undoRule : List Action → Answer
+undoRule [] = answer 234 0
+undoRule (a ∷ xs) = accepted
+
+abbrev pub ruleFor : List (List ℕ) → ℕ → ℕ → List Action → Call → Answer
+ruleFor recs places room xs Open = accepted
+ruleFor recs places room xs (Add rec) = entryRule recs places room (Addition rec)
+ruleFor recs places room xs (Amend rec) = entryRule recs places room (Amendment rec)
+ruleFor recs places room xs (Cancel id) = entryRule recs places room (Cancellation id)
+ruleFor recs places room xs Undo = undoRule xs
+
+-- ---- what a list of actions makes of two buffers of n and m bytes: its records and its entries, printed one behind the other, zeros behind them
+abbrev pub printed : ℕ → List ℕ → List ℕ
+printed n s = s ++ zeros (n - length s)
+
+abbrev pub linesOf : List (List ℕ) → List ℕ
+linesOf recs = joined (map lineOf recs)
+
+abbrev pub entryOf : Action → List ℕ
+entryOf a = entry (kindOf a) (bodyOf a)
+
+abbrev pub entriesOf : List Action → List ℕ
+entriesOf xs = joined (map entryOf xs)
+
+unfoldable pub made : ℕ → ℕ → List Action → Batch
+made n m xs =
+    batchOf (printed n (linesOf (recordsOf xs)))
+    (printed m (entriesOf xs))
+    (countsOf (totalsOf (recordsOf xs)) (length (recordsOf xs)) (length (entriesOf xs)))
+
+-- the answer that the rules give where these actions stand
+unfoldable pub rules : ℕ → ℕ → List Action → Call → Answer
+rules n m xs call = ruleFor (recordsOf xs) (n / 401) (m - length (entriesOf xs)) xs call
+
+-- each action acceptable in its turn, behind those done
+abbrev pub InTurnBehind : ℕ → ℕ → List Action → List Action → Type 0
+InTurnBehind n m before [] = Unit {0}
+InTurnBehind n m before (a ∷ xs) = (rules n m before (callOf a) ≡ accepted) × InTurnBehind n m (before ++ a ∷ []) xs
+
+abbrev pub InTurn : ℕ → ℕ → List Action → Type 0
+InTurn n m xs = InTurnBehind n m [] xs
+
+-- ---- a run of calls: the batch that it leaves, and the answers that it gave
+abbrev pub run : Batch → List Call → Batch
+run b [] = b
+run b (call ∷ calls) = run (after b call) calls
+
+abbrev pub answersOf : Batch → List Call → List Answer
+answersOf b [] = []
+answersOf b (call ∷ calls) = answerTo b call ∷ answersOf (after b call) calls
+
+-- ---- the standing list: the accepted actions, each accepted undo striking out the latest still standing; an accepted opening starts anew
+abbrev pub withoutLatest : List Action → List Action
+withoutLatest [] = []
+withoutLatest (a ∷ []) = []
+withoutLatest (a ∷ b ∷ xs) = a ∷ withoutLatest (b ∷ xs)
+
+abbrev pub standingAfter : List Action → Call → List Action
+standingAfter xs Open = []
+standingAfter xs (Add rec) = xs ++ Addition rec ∷ []
+standingAfter xs (Amend rec) = xs ++ Amendment rec ∷ []
+standingAfter xs (Cancel id) = xs ++ Cancellation id ∷ []
+standingAfter xs Undo = withoutLatest xs
+
+-- goes by the answers that were given: code 0 accepts
+abbrev pub standingFrom : List Action → List Call → List Answer → List Action
+standingFrom xs [] answers = xs
+standingFrom xs (call ∷ calls) [] = xs
+standingFrom xs (call ∷ calls) (r ∷ answers) = standingFrom (cond (eqb (r .code) 0) (standingAfter xs call) xs) calls answers
+
+abbrev pub standing : List Call → List Answer → List Action
+standing calls answers = standingFrom [] calls answers
+
+-- ---- the history: after these calls the batch is what the standing list makes, to the byte, and any call is answered as the rules say
+pub record History (n m : ℕ) (b : Batch) (calls : List Call) : Type 0 where
+  pub leaves : run b calls ≡ made n m (standing calls (answersOf b calls))
+  pub answers : (call : Call) → answerTo (run b calls) call ≡ rules n m (standing calls (answersOf b calls)) call
+
+-- ---- 237: some list of actions, each acceptable in its turn, makes this batch
+pub record MadeBySome (b : Batch) : Type 0 where
+  pub actions : List Action
+  pub inTurn : InTurn (length (b .file)) (length (b .journal)) actions
+  pub is : b ≡ made (length (b .file)) (length (b .journal)) actions
