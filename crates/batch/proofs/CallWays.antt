@@ -71,7 +71,7 @@ module _ (file journal body : List ℕ) (c : Counts) (kind n : ℕ) (pre : Passe
         record { answers = sym e; leaves = rw (e, ec, ef, ej) }
 
 -- ---- the lengths
-lengths-bounded : (n m : ℕ) → rightLengths n m ≡ true → (n ≤ 400599) × (m ≤ 1048576)
+pub lengths-bounded : (n m : ℕ) → rightLengths n m ≡ true → (n ≤ 400599) × (m ≤ 1048576)
 unfolding rightLengths
 lengths-bounded n m t =
     let p = and-eq-true-iff (eqb (n % 401) 0 && leb 401 n && leb n 400599 && leb 403 m) (leb m 1048576) .0 t in

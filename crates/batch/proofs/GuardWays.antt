@@ -26,9 +26,7 @@ use Rattle.batch.specs.Journal.{head, entry, rebuilt, Run}
 use Rattle.batch.specs.Duties.{Replayed}
 use Rattle.batch.specs.Batch.{Batch, batchOf, isZero, sameTotals, sound, rightLengths}
 use Rattle.batch.specs.Guards.{Ready, Verified, Guarded}
-
-clash : (b : Bool) → b ≡ true → b ≡ false → ⊥
-clash b p q = let z : _≡_ {A = ℕ} 0 1 = cc in omega arith
+use Rattle.batch.proofs.JournalWays.{clash}
 
 -- totals whose numbers are the same
 record-of : (l k d q : ℕ) → Totals
@@ -37,7 +35,7 @@ record-of l k d q = record { live = l; cancelled = k; cash = record { 0 = d }; p
 four : (l k d q l′ k′ d′ q′ : ℕ) → l ≡ l′ → k ≡ k′ → d ≡ d′ → q ≡ q′ → record-of l k d q ≡ record-of l′ k′ d′ q′
 four l k d q l′ k′ d′ q′ a b e f = rw (a, b, e, f)
 
-totals-same : (a b : Totals) → sameTotals a b ≡ true → a ≡ b
+pub totals-same : (a b : Totals) → sameTotals a b ≡ true → a ≡ b
 unfolding record-of
 totals-same a b h =
     let p4 = and-eq-true-iff (eqb (a .live) (b .live) && eqb (a .cancelled) (b .cancelled) && eqb (a .cash .0) (b .cash .0)) (eqb (a .price .0) (b .price .0)) .0 h in

@@ -21,11 +21,11 @@ use Rattle.batch.specs.Actions.{seek, present, placeOf, isCancelled, idO
 use Rattle.batch.specs.Journal.{bodyLength, entryLength, headStands, startsEntry, kindAt, bodyAt, Run, runOf, stepAs, stepOf}
 use Rattle.batch.specs.Duties.{Acceptable, Stepping, Moved, Stepped}
 
-clash : (b : Bool) → b ≡ true → b ≡ false → ⊥
+pub clash : (b : Bool) → b ≡ true → b ≡ false → ⊥
 clash b p q = let z : _≡_ {A = ℕ} 0 1 = cc in omega arith
 
 -- ---- where an action is accepted
-or-both : (a b : Answer) → orElse a b .code ≡ 0 → (a .code ≡ 0) × (b .code ≡ 0)
+pub or-both : (a b : Answer) → orElse a b .code ≡ 0 → (a .code ≡ 0) × (b .code ≡ 0)
 unfolding orElse
 or-both a b h = go (eqb (a .code) 0) refl h
   where

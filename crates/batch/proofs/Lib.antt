@@ -4,3 +4,17 @@ pub mod ReplayWays
 pub mod GuardWays
 pub mod CountWays
 pub mod CallWays
+pub mod Rows
+pub mod PrintedLines
+pub mod Sheets
+pub mod Views
+pub mod FileLines
+pub mod OneMore
+pub mod OneTouched
+pub mod SheetTotals
+pub mod Printing
+pub mod Parsing
+pub mod Exactly
+pub mod Turning
+pub mod History
+pub mod SoundFile

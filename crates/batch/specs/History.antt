@@ -1,11 +1,11 @@
 -- The history of a batch, in the paper's words: actions, the records that they make, the rules over those records, and what stands after a run of calls.
 -- No buffer, count or replay is in the rules: a batch is its list of standing actions.
 -- Assumes nothing.
-use Prim.Native.Nat.{ℕ, _+_, _-_, _/_}
+use Prim.Native.Nat.{ℕ, _+_, _-_, _*_, _/_, _<_}
 use mathlib.Core.Bool.{Bool, true, false, cond, _&&_, _||_}
 use mathlib.Core.Path.{_≡_}
 use mathlib.Core.List.{List, [], _∷_, _++_, map}
-use lib.ListN.{length, set}
+use lib.ListN.{length, take, drop, set}
 use lib.Dec.{eqb, ltb, leb}
 use Rattle.text.specs.declared.Answer.{Answer}
 use Rattle.text.specs.Answers.{answer, accepted}
@@ -15,6 +15,7 @@ use Rattle.layout.specs.Widths.{joined}
 use Rattle.layout.specs.Layout.{fieldOf}
 use Rattle.record.specs.Columns.{orElse}
 use Rattle.record.specs.Rules.{recordAnswer}
+use Rattle.posting.specs.File.{idAt, fileAnswer, passed}
 use Rattle.posting.specs.Sums.{totalsOf}
 use Rattle.batch.specs.Actions.{idOf, lineOf}
 use Rattle.batch.specs.Journal.{bodyLength, entryLength, entry, zeros}
@@ -180,6 +181,28 @@ standing calls answers = standingFrom [] calls answers
 pub record History (n m : ℕ) (b : Batch) (calls : List Call) : Type 0 where
   pub leaves : run b calls ≡ made n m (standing calls (answersOf b calls))
   pub answers : (call : Call) → answerTo (run b calls) call ≡ rules n m (standing calls (answersOf b calls)) call
+
+-- ---- an undo after an accepted action: it is accepted, and gives back the batch before
+pub record Undoes (before b : Batch) : Type 0 where
+  pub answers : answerTo b Undo ≡ accepted
+  pub back : after b Undo ≡ before
+
+-- ---- an amendment writes, in the file, only the 401 bytes of that consignment's own place
+pub record AmendsOnePlace (b : Batch) (rec : List ℕ) (file : List ℕ) : Type 0 where
+  pub place : ℕ
+  pub held : place < b .counts .held
+  pub own : idAt (b .file) place ≡ idOf rec
+  pub line : take 401 (drop (place * 401) file) ≡ lineOf rec
+  pub before : take (place * 401) file ≡ take (place * 401) (b .file)
+  pub behind : drop (place * 401 + 401) file ≡ drop (place * 401 + 401) (b .file)
+
+-- ---- the file of a batch: its records, each with its line end, then zeros; without the zeros the file check accepts it, with the same four totals
+pub record GoodFileOf (b : Batch) : Type 0 where
+  pub records : List (List ℕ)
+  pub many : length records ≡ b .counts .held
+  pub bytes : b .file ≡ printed (length (b .file)) (linesOf records)
+  pub cut : take (b .counts .held * 401) (b .file) ≡ linesOf records
+  pub passes : fileAnswer (linesOf records) ≡ passed (b .counts .totals)
 
 -- ---- 237: some list of actions, each acceptable in its turn, makes this batch
 pub record MadeBySome (b : Batch) : Type 0 where

@@ -1,3 +1,4 @@
 pub mod Tables
 pub mod Ways
 pub mod Order
+pub mod Status

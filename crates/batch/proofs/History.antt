@@ -1,0 +1,127 @@
+-- The history of a batch: whatever is called after an opening, file, counts and journal are what the standing list makes, and every answer is that of the rules.
+-- Assumes nothing.
+use Prim.Native.Nat.{ℕ, _+_, _*_, _≤_}
+use mathlib.Core.Path.{_≡_, refl, sym, ap, _∙_, subst}
+use mathlib.Core.Bool.{Bool, true, false, cond}
+use mathlib.Core.List.{List, [], _∷_, _++_, map, append-assoc, append-nil}
+use native.Mathlib.Omega.{arith}
+use borrow.Author.Tests.{eq-eqb, ne-eqb, eqb-true, eqb-false}
+use lib.Dec.{eqb}
+use lib.ListN.{length, take, drop}
+use Rattle.text.specs.declared.Answer.{Answer}
+use Rattle.text.specs.Answers.{answer, accepted}
+use Rattle.batch.specs.Journal.{zeros}
+use Rattle.batch.specs.Batch.{Batch, batchOf, noCounts, Call, Open, Add, Amend, Cancel, Undo, rightLengths, sound, ready, answerTo, after}
+use Rattle.batch.specs.History.{Action, Addition, Amendment, Cancellation, callOf, undoRule, rules, made, InTurnBehind, InTurn, run, answersOf, withoutLatest, standingAfter, standingFrom, standing, History, Undoes}
+use Rattle.batch.proofs.Parsing.{by-cond}
+use Rattle.batch.proofs.Exactly.{Stands, stands-exactly, Found, found}
+use Rattle.batch.proofs.Turning.{answered-by-rules, Taken, none-stands, opening, turned}
+
+-- ---- from any list that stands
+module _ (n m : ℕ) (good : rightLengths n m ≡ true) where
+  runs : (calls : List Call) (xs : List Action) → Stands n m xs → Taken n m (run (made n m xs) calls) (standingFrom xs calls (answersOf (made n m xs) calls))
+  runs [] xs st = record { is = refl; stands = st }
+  runs (call ∷ calls) xs st =
+      let t = turned n m good xs st call in
+      let ys : List Action = cond (eqb (answerTo (made n m xs) call .code) 0) (standingAfter xs call) xs in
+      subst (λ (b : Batch). Taken n m (run b calls) (standingFrom (cond (eqb (answerTo (made n m xs) call .code) 0) (standingAfter xs call) xs) calls (answersOf b calls))) (sym (t .is))
+      (runs calls (cond (eqb (answerTo (made n m xs) call .code) 0) (standingAfter xs call) xs) (t .stands))
+
+-- ---- after an opening that is accepted, whatever the buffers held
+opened-lengths : (b : Batch) → answerTo b Open .code ≡ 0 → rightLengths (length (b .file)) (length (b .journal)) ≡ true
+unfolding answerTo
+opened-lengths b = by-cond P (rightLengths (length (b .file)) (length (b .journal))) _ _ (λ e h. e) (λ e h. absurd (omega (arith, h)))
+  where
+    P : Answer → Type 0
+    P r = r .code ≡ 0 → rightLengths (length (b .file)) (length (b .journal)) ≡ true
+
+opened-is : (b : Batch) → answerTo b Open .code ≡ 0 → after b Open ≡ made (length (b .file)) (length (b .journal)) []
+unfolding after
+opened-is b z = rw (eq-eqb (answerTo b Open .code) 0 z) (opening (length (b .file)) (length (b .journal)))
+
+pub history : (b : Batch) → answerTo b Open .code ≡ 0 → (calls : List Call) → History (length (b .file)) (length (b .journal)) (after b Open) calls
+history b z calls =
+    let good = opened-lengths b z in
+    subst (λ (x : Batch). History (length (b .file)) (length (b .journal)) x calls) (sym (opened-is b z))
+    (let t = runs (length (b .file)) (length (b .journal)) good calls [] (none-stands (length (b .file)) (length (b .journal))) in
+    record {
+      leaves = t .is;
+      answers = λ call. ap (λ (x : Batch). answerTo x call) (t .is) ∙ answered-by-rules (length (b .file)) (length (b .journal)) good _ (t .stands) call;
+    })
+
+-- ---- what a list makes is what performing it makes, each call answering 0
+call-stands : (xs : List Action) (a : Action) → standingAfter xs (callOf a) ≡ xs ++ a ∷ []
+call-stands xs (Addition rec) = refl
+call-stands xs (Amendment rec) = refl
+call-stands xs (Cancellation id) = refl
+
+pub record Performed (n m : ℕ) (b : Batch) (xs made-by : List Action) : Type 0 where
+  pub leaves : run b (map callOf xs) ≡ made n m made-by
+  pub answers : answersOf b (map callOf xs) ≡ map (λ a. accepted) xs
+
+module _ (n m : ℕ) (good : rightLengths n m ≡ true) where
+  perform : (before xs : List Action) → Stands n m before → InTurnBehind n m before xs → Performed n m (made n m before) xs (before ++ xs)
+  perform before [] st t = record { leaves = ap (made n m) (sym (append-nil before)); answers = refl }
+  perform before (a ∷ xs) st t =
+      let met : answerTo (made n m before) (callOf a) ≡ accepted = answered-by-rules n m good before st (callOf a) ∙ t .0 in
+      let code : answerTo (made n m before) (callOf a) .code ≡ 0 = ap (λ (r : Answer). r .code) met in
+      let next : cond (eqb (answerTo (made n m before) (callOf a) .code) 0) (standingAfter before (callOf a)) before ≡ before ++ a ∷ [] = rw (eq-eqb (answerTo (made n m before) (callOf a) .code) 0 code) (call-stands before a) in
+      let k : Taken n m (after (made n m before) (callOf a)) (before ++ a ∷ []) = subst (Taken n m (after (made n m before) (callOf a))) next (turned n m good before st (callOf a)) in
+      let i = perform (before ++ a ∷ []) xs (k .stands) (t .1) in
+      record {
+        leaves = ap (λ (b : Batch). run b (map callOf xs)) (k .is) ∙ i .leaves ∙ ap (made n m) (append-assoc before (a ∷ []) xs);
+        answers = λ j. met j ∷ (ap (λ (b : Batch). answersOf b (map callOf xs)) (k .is) ∙ i .answers) j;
+      }
+
+pub performed : (b : Batch) → answerTo b Open .code ≡ 0 → (xs : List Action) → InTurn (length (b .file)) (length (b .journal)) xs
+    → Performed (length (b .file)) (length (b .journal)) (after b Open) xs xs
+performed b z xs t =
+    subst (λ (x : Batch). Performed (length (b .file)) (length (b .journal)) x xs xs) (sym (opened-is b z))
+    (perform (length (b .file)) (length (b .journal)) (opened-lengths b z) [] xs (none-stands (length (b .file)) (length (b .journal))) t)
+
+-- ---- an undo after an accepted action gives back the batch before it
+without-latest : (xs : List Action) (a : Action) → withoutLatest (xs ++ a ∷ []) ≡ xs
+without-latest [] a = refl
+without-latest (x ∷ []) a = refl
+without-latest (x ∷ y ∷ xs) a = ap (λ (t : List Action). x ∷ t) (without-latest (y ∷ xs) a)
+
+some-stands : (xs : List Action) (a : Action) → undoRule (xs ++ a ∷ []) ≡ accepted
+some-stands [] a = refl
+some-stands (x ∷ xs) a = refl
+
+-- a batch whose call was accepted passed the test
+pub record Passes (b : Batch) : Type 0 where
+  pub lengths : rightLengths (length (b .file)) (length (b .journal)) ≡ true
+  pub sounds : sound b ≡ true
+
+pub accepted-passes : (b : Batch) (a : Action) → answerTo b (callOf a) .code ≡ 0 → Passes b
+unfolding answerTo
+accepted-passes b a =
+    by-cond P (rightLengths (length (b .file)) (length (b .journal))) _ _
+    (λ e. by-cond P (ready b (callOf a)) _ _ (λ r h. record { lengths = e; sounds = is-sound a r }) (λ r h. absurd (omega (arith, h))))
+    (λ e h. absurd (omega (arith, h)))
+  where
+    P : Answer → Type 0
+    P r = r .code ≡ 0 → Passes b
+
+    is-sound : (x : Action) → ready b (callOf x) ≡ true → sound b ≡ true
+    is-sound (Addition rec) e = e
+    is-sound (Amendment rec) e = e
+    is-sound (Cancellation id) e = e
+
+undoes : (n m : ℕ) → rightLengths n m ≡ true → (xs : List Action) (a : Action) → Stands n m xs → answerTo (made n m xs) (callOf a) .code ≡ 0 → Undoes (made n m xs) (after (made n m xs) (callOf a))
+unfolding rules
+undoes n m good xs a st q =
+    let next : cond (eqb (answerTo (made n m xs) (callOf a) .code) 0) (standingAfter xs (callOf a)) xs ≡ xs ++ a ∷ [] = rw (eq-eqb (answerTo (made n m xs) (callOf a) .code) 0 q) (call-stands xs a) in
+    let k : Taken n m (after (made n m xs) (callOf a)) (xs ++ a ∷ []) = subst (Taken n m (after (made n m xs) (callOf a))) next (turned n m good xs st (callOf a)) in
+    let met : answerTo (made n m (xs ++ a ∷ [])) Undo ≡ accepted = answered-by-rules n m good (xs ++ a ∷ []) (k .stands) Undo ∙ some-stands xs a in
+    let back : cond (eqb (answerTo (made n m (xs ++ a ∷ [])) Undo .code) 0) (withoutLatest (xs ++ a ∷ [])) (xs ++ a ∷ []) ≡ xs = rw met (without-latest xs a) in
+    subst (λ (x : Batch). Undoes (made n m xs) x) (sym (k .is))
+    record { answers = met; back = turned n m good (xs ++ a ∷ []) (k .stands) Undo .is ∙ ap (made n m) back }
+
+pub undo-gives-back : (b : Batch) (a : Action) → answerTo b (callOf a) .code ≡ 0 → Undoes b (after b (callOf a))
+undo-gives-back b a z =
+    let p = accepted-passes b a z in
+    let f = found b (p .sounds) in
+    subst (λ (x : Batch). Undoes x (after x (callOf a))) (sym (f .is))
+    (undoes (length (b .file)) (length (b .journal)) (p .lengths) (f .acts) a (f .stands) (subst (λ (x : Batch). answerTo x (callOf a) .code ≡ 0) (f .is) z))

@@ -1,0 +1,191 @@
+-- The records of a batch as a list: what is known of those that acceptable actions made.
+-- Assumes nothing.
+use Prim.Native.Nat.{ℕ, _*_, _/_, _≤_, _<_}
+use mathlib.Core.Path.{_≡_, refl, sym, ap, _∙_}
+use mathlib.Core.Bool.{Bool, true, false, cond}
+use mathlib.Core.List.{List, [], _∷_, _++_, map}
+use native.Mathlib.Omega.{arith}
+use borrow.Author.Tests.{eqb-true, eqb-false, ltb-true}
+use lib.Dec.{eqb, ltb}
+use lib.ListN.{length, getD, take, drop, set, length-set}
+use lib.Seq.{take-set-le, drop-cons, drop-set-add}
+use Rattle.text.specs.declared.Answer.{Answer}
+use Rattle.text.specs.Answers.{answer, accepted}
+use Rattle.text.specs.Lists.{sameBytes}
+use Rattle.text.proofs.Lists.{same-exactly}
+use Rattle.ident.specs.Identifier.{rightId}
+use Rattle.layout.specs.Layout.{fieldOf}
+use Rattle.record.specs.Columns.{orElse}
+use Rattle.record.specs.Rules.{recordAnswer}
+use Rattle.record.proofs.Status.{posting-passes, withdrawn-passes}
+use Rattle.batch.specs.Actions.{idOf, actionHeld}
+use Rattle.batch.specs.History.{Action, Addition, Amendment, Cancellation, kindOf, isWithdrawn, withdrawn, hasId, replacedBy, withdrawnFor, isPresent, isCancelledThere, liveRule, recordsAfter, actionRule}
+use Rattle.batch.proofs.JournalWays.{or-both}
+use Rattle.batch.proofs.Rows.{length-last, PlaceIn, earlier, last, place-in, length-map, map-nth, none-at}
+
+-- ---- sheets
+-- a record as it may stand in a batch: 399 bytes that keep the table, status blank or "0 "
+pub record Kept (rec : List ℕ) : Type 0 where
+  pub long : length rec ≡ 399
+  pub status : fieldOf rec 19 ≡ cond (isWithdrawn rec) (48 ∷ 32 ∷ []) (32 ∷ 32 ∷ [])
+  pub passes : recordAnswer false rec .code ≡ 0
+
+-- such records, no two with one identifier
+pub record Sheet (recs : List (List ℕ)) : Type 0 where
+  pub each : (i : ℕ) → i < length recs → Kept (getD recs i [])
+  pub apart : (i j : ℕ) → i < length recs → j < length recs → idOf (getD recs i []) ≡ idOf (getD recs j []) → i ≡ j
+
+pub sheet-none : Sheet []
+sheet-none = record { each = λ i h. absurd (omega arith); apart = λ i j h g e. absurd (omega arith) }
+
+-- ---- fields of a record of 399 bytes
+pub id-is : (rec : List ℕ) → length rec ≡ 399 → idOf rec ≡ take 13 rec
+unfolding fieldOf
+id-is rec long = rw long
+
+pub status-is : (rec : List ℕ) → length rec ≡ 399 → fieldOf rec 19 ≡ take 2 (drop 340 rec)
+unfolding fieldOf
+status-is rec long = rw long
+
+module _ (rec : List ℕ) (long : length rec ≡ 399) where
+  pub withdrawn-long : length (withdrawn rec) ≡ 399
+  withdrawn-long = length-set (set rec 340 48) 341 32 ∙ length-set rec 340 48 ∙ long
+
+  pub withdrawn-id : idOf (withdrawn rec) ≡ idOf rec
+  withdrawn-id =
+      id-is (withdrawn rec) withdrawn-long ∙ take-set-le 13 (set rec 340 48) 341 32 (omega arith) ∙ take-set-le 13 rec 340 48 (omega arith) ∙ sym (id-is rec long)
+
+  pub withdrawn-status : fieldOf (withdrawn rec) 19 ≡ 48 ∷ 32 ∷ []
+  withdrawn-status =
+      let two : drop 340 rec ≡ getD rec 340 0 ∷ getD rec 341 0 ∷ drop 342 rec = drop-cons rec 340 0 (omega arith) ∙ ap (λ (t : List ℕ). getD rec 340 0 ∷ t) (drop-cons rec 341 0 (omega arith)) in
+      status-is (withdrawn rec) withdrawn-long ∙ ap (λ (t : List ℕ). take 2 t) (drop-set-add 340 (set rec 340 48) 1 32)
+      ∙ ap (λ (t : List ℕ). take 2 (set t 1 32)) (drop-set-add 340 rec 0 48 ∙ ap (λ (t : List ℕ). set t 0 48) two)
+
+-- ---- an accepted action
+-- an addition: the record passes, its identifier is new, and there is a place
+pub record Adds (recs : List (List ℕ)) (places : ℕ) (rec : List ℕ) : Type 0 where
+  pub passes : recordAnswer true rec .code ≡ 0
+  pub new : isPresent recs (idOf rec) ≡ false
+  pub room : length recs < places
+
+pub adds : (recs : List (List ℕ)) (places : ℕ) (rec : List ℕ) → actionRule recs places (Addition rec) .code ≡ 0 → Adds recs places rec
+unfolding actionRule
+adds recs places rec z =
+    let both = or-both (recordAnswer true rec) _ z in
+    go (isPresent recs (idOf rec)) refl (ltb (length recs) places) refl (both .0) (both .1)
+  where
+    go : (p : Bool) → isPresent recs (idOf rec) ≡ p → (q : Bool) → ltb (length recs) places ≡ q → recordAnswer true rec .code ≡ 0
+        → cond p (answer 2 1) (cond q accepted (answer 230 0)) .code ≡ 0 → Adds recs places rec
+    go true ep q eq t h = absurd (omega (arith, h))
+    go false ep true eq t h = record { passes = t; new = ep; room = ltb-true (length recs) places eq }
+    go false ep false eq t h = absurd (omega (arith, h))
+
+pub live-present : (recs : List (List ℕ)) (id : List ℕ) → liveRule recs id .code ≡ 0 → isPresent recs id ≡ true
+live-present recs id z = go (isPresent recs id) refl z
+  where
+    go : (p : Bool) → isPresent recs id ≡ p → cond p (cond (isCancelledThere recs id) (answer 233 0) accepted) (answer 232 0) .code ≡ 0 → isPresent recs id ≡ true
+    go true e h = e
+    go false e h = absurd (omega (arith, h))
+
+-- an amendment: the record passes, and its identifier is present
+pub amends : (recs : List (List ℕ)) (places : ℕ) (rec : List ℕ) → actionRule recs places (Amendment rec) .code ≡ 0 → (recordAnswer true rec .code ≡ 0) × (isPresent recs (idOf rec) ≡ true)
+unfolding actionRule
+amends recs places rec z = let both = or-both (recordAnswer true rec) (liveRule recs (idOf rec)) z in (both .0, live-present recs (idOf rec) (both .1))
+
+pub cancels : (recs : List (List ℕ)) (places : ℕ) (id : List ℕ) → actionRule recs places (Cancellation id) .code ≡ 0 → isPresent recs id ≡ true
+unfolding actionRule
+cancels recs places id z = live-present recs id (go (rightId id) z)
+  where
+    go : (t : Bool) → cond t (liveRule recs id) (answer 1 1) .code ≡ 0 → liveRule recs id .code ≡ 0
+    go true h = h
+    go false h = absurd (omega (arith, h))
+
+-- ---- what it leaves
+pub kept-posting : (rec : List ℕ) → recordAnswer true rec .code ≡ 0 → Kept rec
+unfolding sameBytes
+kept-posting rec z =
+    let p = posting-passes rec z in
+    record { long = p .0; status = p .1 ∙ rw (p .1); passes = p .2 }
+
+kept-withdrawn : (rec : List ℕ) → Kept rec → Kept (withdrawn rec)
+unfolding sameBytes
+kept-withdrawn rec k =
+    let e = withdrawn-status rec (k .long) in
+    record { long = withdrawn-long rec (k .long); status = e ∙ rw e; passes = withdrawn-passes rec (k .long) (k .passes) }
+
+-- one record more, with a new identifier
+sheet-last : (recs : List (List ℕ)) (rec : List ℕ) → Sheet recs → Kept rec → isPresent recs (idOf rec) ≡ false → Sheet (recs ++ rec ∷ [])
+sheet-last recs rec s k new = record { each = λ i h. kept (place-in recs rec [] i h); apart = λ i j h g e. same (place-in recs rec [] i h) (place-in recs rec [] j g) e }
+  where
+    fresh : (i : ℕ) → i < length recs → idOf (getD recs i []) ≡ idOf rec → ⊥
+    fresh i h e = none-at (hasId (idOf rec)) recs i new h (same-exactly (idOf (getD recs i [])) (idOf rec) .1 e)
+
+    kept : {i : ℕ} → PlaceIn recs rec [] i → Kept (getD (recs ++ rec ∷ []) i [])
+    kept {i} (earlier h e) = rw e (s .each i h)
+    kept {i} (last h e) = rw e k
+
+    same : {i j : ℕ} → PlaceIn recs rec [] i → PlaceIn recs rec [] j → idOf (getD (recs ++ rec ∷ []) i []) ≡ idOf (getD (recs ++ rec ∷ []) j []) → i ≡ j
+    same {i} {j} (earlier h e) (earlier g f) q = s .apart i j h g (rw (e, f) at q)
+    same {i} {j} (earlier h e) (last g f) q = absurd (fresh i h (rw (e, f) at q))
+    same {i} {j} (last h e) (earlier g f) q = absurd (fresh j g (sym (rw (e, f) at q)))
+    same {i} {j} (last h e) (last g f) q = h ∙ sym g
+
+-- each changed to a record that may stand there, with the same identifier
+sheet-map : (recs : List (List ℕ)) (f : List ℕ → List ℕ) → Sheet recs → ((rec : List ℕ) → Kept rec → Kept (f rec)) → ((rec : List ℕ) → Kept rec → idOf (f rec) ≡ idOf rec) → Sheet (map f recs)
+sheet-map recs f s keeps same-id = record {
+  each = λ i h. rw (map-nth f recs i [] [] (within i h)) (keeps (getD recs i []) (s .each i (within i h)));
+  apart = λ i j h g e. s .apart i j (within i h) (within j g) (sym (id-at i (within i h)) ∙ e ∙ id-at j (within j g));
+}
+  where
+    within : (i : ℕ) → i < length (map f recs) → i < length recs
+    within i h = omega (arith, length-map f recs)
+
+    id-at : (i : ℕ) → i < length recs → idOf (getD (map f recs) i []) ≡ idOf (getD recs i [])
+    id-at i h = rw (map-nth f recs i [] [] h) (same-id (getD recs i []) (s .each i h))
+
+module _ (new : List ℕ) (k : Kept new) where
+  replaced-kept : (rec : List ℕ) → Kept rec → Kept (replacedBy new rec)
+  replaced-kept rec l = go (hasId (idOf new) rec)
+    where
+      go : (t : Bool) → Kept (cond t new rec)
+      go true = k
+      go false = l
+
+  replaced-id : (rec : List ℕ) → Kept rec → idOf (replacedBy new rec) ≡ idOf rec
+  replaced-id rec l = go (hasId (idOf new) rec) refl
+    where
+      go : (t : Bool) → hasId (idOf new) rec ≡ t → idOf (cond t new rec) ≡ idOf rec
+      go true e = sym (same-exactly (idOf rec) (idOf new) .0 e)
+      go false e = refl
+
+module _ (id : List ℕ) where
+  cancelled-kept : (rec : List ℕ) → Kept rec → Kept (withdrawnFor id rec)
+  cancelled-kept rec l = go (hasId id rec)
+    where
+      go : (t : Bool) → Kept (cond t (withdrawn rec) rec)
+      go true = kept-withdrawn rec l
+      go false = l
+
+  cancelled-id : (rec : List ℕ) → Kept rec → idOf (withdrawnFor id rec) ≡ idOf rec
+  cancelled-id rec l = go (hasId id rec)
+    where
+      go : (t : Bool) → idOf (cond t (withdrawn rec) rec) ≡ idOf rec
+      go true = withdrawn-id rec (l .long)
+      go false = refl
+
+pub sheet-step : (recs : List (List ℕ)) (places : ℕ) (a : Action) → Sheet recs → actionRule recs places a .code ≡ 0 → Sheet (recordsAfter recs a)
+sheet-step recs places (Addition rec) s z = let p = adds recs places rec z in sheet-last recs rec s (kept-posting rec (p .passes)) (p .new)
+sheet-step recs places (Amendment rec) s z =
+    let k = kept-posting rec (amends recs places rec z .0) in
+    sheet-map recs (replacedBy rec) s (replaced-kept rec k) (replaced-id rec k)
+sheet-step recs places (Cancellation id) s z = sheet-map recs (withdrawnFor id) s (cancelled-kept id) (cancelled-id id)
+
+pub held-step : (recs : List (List ℕ)) (a : Action) → actionHeld (length recs) (kindOf a) ≡ length (recordsAfter recs a)
+held-step recs (Addition rec) = sym (length-last recs rec)
+held-step recs (Amendment rec) = sym (length-map (replacedBy rec) recs)
+held-step recs (Cancellation id) = sym (length-map (withdrawnFor id) recs)
+
+pub fits-step : (n : ℕ) (recs : List (List ℕ)) (a : Action) → length recs * 401 ≤ n → actionRule recs (n / 401) a .code ≡ 0 → length (recordsAfter recs a) * 401 ≤ n
+fits-step n recs (Addition rec) f z = omega (arith, adds recs (n / 401) rec z .room, length-last recs rec)
+fits-step n recs (Amendment rec) f z = omega (arith, length-map (replacedBy rec) recs)
+fits-step n recs (Cancellation id) f z = omega (arith, length-map (withdrawnFor id) recs)

@@ -1,0 +1,100 @@
+-- The file of a batch that passed the test: its records and zeros; an amendment changes one place of it.
+-- Assumes nothing.
+use Prim.Native.Nat.{ℕ, suc, _+_, _-_, _*_, _/_, _≤_, _<_}
+use mathlib.Core.Path.{_≡_, refl, sym, ap, _∙_, subst}
+use mathlib.Core.Bool.{Bool, true, false, cond, and-eq-true-iff}
+use mathlib.Core.List.{List, [], _∷_, _++_, append-assoc}
+use native.Mathlib.Omega.{arith}
+use borrow.Author.Tests.{eq-eqb}
+use lib.Dec.{eqb}
+use lib.ListN.{length, getD, take, drop, length-append}
+use lib.Seq.{take-at, drop-at, drop-append-add, take-append-seam, length-take-le}
+use Rattle.text.specs.declared.Answer.{Answer}
+use Rattle.text.specs.Lists.{overlay}
+use Rattle.text.proofs.Lists.{same-exactly}
+use Rattle.posting.specs.File.{idAt, fileAnswer, passed}
+use Rattle.posting.specs.Sums.{totalsOf}
+use Rattle.posting.proofs.Lines.{clash}
+use Rattle.batch.specs.Actions.{idOf, lineOf, withLine, placeOf, actionFile}
+use Rattle.batch.specs.Journal.{zeros}
+use Rattle.batch.specs.Batch.{Batch, Call, Amend, rightLengths, sound, answerTo, entered, after}
+use Rattle.batch.specs.History.{Action, Amendment, isPresent, printed, linesOf, recordsOf, entriesOf, rules, made, AmendsOnePlace, GoodFileOf}
+use Rattle.batch.proofs.CallWays.{lengths-bounded}
+use Rattle.batch.proofs.Sheets.{Sheet, amends, kept-posting}
+use Rattle.batch.proofs.Views.{lines-long, id-view, Standing, absent, at, stands}
+use Rattle.batch.proofs.SheetTotals.{file-passes}
+use Rattle.batch.proofs.Exactly.{Stands, accepted-entry, sheet-made, fits-made, file-long, found}
+use Rattle.batch.proofs.Turning.{answered-by-rules}
+use Rattle.batch.proofs.History.{Passes, accepted-passes}
+
+-- ---- a sound batch
+sheet-file : (n m : ℕ) → n ≤ 400599 → (xs : List Action) → Stands n m xs → GoodFileOf (made n m xs)
+unfolding made
+sheet-file n m bound xs st =
+    let s = sheet-made n m xs st in
+    let f = fits-made n m xs st in
+    record {
+      records = recordsOf xs;
+      many = refl;
+      bytes = ap (λ (k : ℕ). printed k (linesOf (recordsOf xs))) (sym (file-long n m xs st));
+      cut = take-at (linesOf (recordsOf xs)) (zeros (n - length (linesOf (recordsOf xs)))) (length (recordsOf xs) * 401) (lines-long (recordsOf xs) s);
+      passes = file-passes (recordsOf xs) s (omega arith);
+    }
+
+pub sound-file : (b : Batch) → rightLengths (length (b .file)) (length (b .journal)) ≡ true → sound b ≡ true → GoodFileOf b
+sound-file b good h =
+    let f = found b h in
+    subst GoodFileOf (sym (f .is)) (sheet-file (length (b .file)) (length (b .journal)) (lengths-bounded _ _ good .0) (f .acts) (f .stands))
+
+-- ---- one place
+module _ (s p : List ℕ) (a : ℕ) (h : a ≤ length s) where
+  front-long : length (take a s) ≡ a
+  front-long = length-take-le a s h
+
+  front-stays : take a (overlay s a p) ≡ take a s
+  front-stays = take-at (take a s) (p ++ drop (a + length p) s) a front-long
+
+  middle-there : take (length p) (drop a (overlay s a p)) ≡ p
+  middle-there = ap (take (length p)) (drop-at (take a s) (p ++ drop (a + length p) s) a front-long) ∙ take-append-seam p (drop (a + length p) s)
+
+  rest-stays : drop (a + length p) (overlay s a p) ≡ drop (a + length p) s
+  rest-stays =
+      let whole : overlay s a p ≡ (take a s ++ p) ++ drop (a + length p) s = sym (append-assoc (take a s) p (drop (a + length p) s)) in
+      ap (drop (a + length p)) whole ∙ drop-at (take a s ++ p) (drop (a + length p) s) (a + length p) (length-append (take a s) p ∙ ap (λ (k : ℕ). k + length p) front-long)
+
+one-place : (n m : ℕ) → rightLengths n m ≡ true → (xs : List Action) → Stands n m xs → (rec : List ℕ) → answerTo (made n m xs) (Amend rec) .code ≡ 0
+    → AmendsOnePlace (made n m xs) rec (after (made n m xs) (Amend rec) .file)
+unfolding made rules after entered actionFile
+one-place n m good xs st rec z =
+    let ruled = ap (λ (r : Answer). r .code) (answered-by-rules n m good xs st (Amend rec)) in
+    let ok = accepted-entry n (recordsOf xs) (m - length (entriesOf xs)) (Amendment rec) (sym ruled ∙ z) .accepts in
+    let p = amends (recordsOf xs) (n / 401) rec (ok .rule) in
+    rw (eq-eqb (answerTo (made n m xs) (Amend rec) .code) 0 z) (go (ok .sized) (p .1) (stands (recordsOf xs) (sheet-made n m xs st) (zeros (n - length (linesOf (recordsOf xs)))) (idOf rec)))
+  where
+    file : List ℕ
+    file = printed n (linesOf (recordsOf xs))
+
+    go : length rec ≡ 399 → isPresent (recordsOf xs) (idOf rec) ≡ true → Standing (recordsOf xs) (sheet-made n m xs st) (zeros (n - length (linesOf (recordsOf xs)))) (idOf rec)
+        → AmendsOnePlace (made n m xs) rec (withLine (printed n (linesOf (recordsOf xs))) (placeOf (printed n (linesOf (recordsOf xs))) (idOf rec) (length (recordsOf xs))) rec)
+    go long p (absent q none) = absurd (clash p none)
+    go long p (at k q h e) =
+        let place : placeOf (printed n (linesOf (recordsOf xs))) (idOf rec) (length (recordsOf xs)) ≡ k = omega (arith, q) in
+        let wide : length (lineOf rec) ≡ 401 = omega (arith, length-append rec (13 ∷ 10 ∷ [])) in
+        let within : k * 401 ≤ length (printed n (linesOf (recordsOf xs))) = omega (arith, fits-made n m xs st, file-long n m xs st) in
+        rw place record {
+          place = k;
+          held = h;
+          own = id-view (recordsOf xs) (sheet-made n m xs st) (zeros (n - length (linesOf (recordsOf xs)))) k h ∙ same-exactly (idOf (getD (recordsOf xs) k [])) (idOf rec) .0 e;
+          line = ap (λ (w : ℕ). take w (drop (k * 401) (withLine (printed n (linesOf (recordsOf xs))) k rec))) (sym wide) ∙ middle-there (printed n (linesOf (recordsOf xs))) (lineOf rec) (k * 401) within;
+          before = front-stays (printed n (linesOf (recordsOf xs))) (lineOf rec) (k * 401) within;
+          behind = ap (λ (w : ℕ). drop (k * 401 + w) (withLine (printed n (linesOf (recordsOf xs))) k rec)) (sym wide)
+              ∙ rest-stays (printed n (linesOf (recordsOf xs))) (lineOf rec) (k * 401) within
+              ∙ ap (λ (w : ℕ). drop (k * 401 + w) (printed n (linesOf (recordsOf xs)))) wide;
+        }
+
+pub amends-one-place : (b : Batch) (rec : List ℕ) → answerTo b (Amend rec) .code ≡ 0 → AmendsOnePlace b rec (after b (Amend rec) .file)
+amends-one-place b rec z =
+    let p = accepted-passes b (Amendment rec) z in
+    let f = found b (p .sounds) in
+    subst (λ (x : Batch). AmendsOnePlace x rec (after x (Amend rec) .file)) (sym (f .is))
+    (one-place (length (b .file)) (length (b .journal)) (p .lengths) (f .acts) (f .stands) rec (subst (λ (x : Batch). answerTo x (Amend rec) .code ≡ 0) (f .is) z))

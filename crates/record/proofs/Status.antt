@@ -1,0 +1,146 @@
+-- The status of a record, field 19: a record that may be posted has a blank one and keeps the file's table too; setting it to "0 " changes no other
+-- field and keeps the table kept.
+-- Assumes nothing.
+use Prim.Native.Nat.{ℕ, zero, suc, _+_, _-_, _≤_, _<_}
+use mathlib.Core.Path.{_≡_, refl, sym, ap, _∙_}
+use mathlib.Core.Bool.{Bool, true, false, cond, _&&_, and-eq-true-iff}
+use mathlib.Core.List.{List, [], _∷_}
+use native.Mathlib.Omega.{arith}
+use borrow.Author.Tests.{eq-eqb, eqb-true, eqb-false, leb-true, ltb-true, ltb-false}
+use lib.Dec.{eqb, leb, ltb}
+use lib.ListN.{length, getD, take, drop, set, length-set}
+use lib.Seq.{take-set-le, drop-set-lt, drop-set-add, drop-cons, getD-set-same, getD-set-other}
+use Rattle.layout.specs.Widths.{start, cut}
+use Rattle.layout.specs.Layout.{widths, isField, fieldOf}
+use Rattle.layout.proofs.Tiling.{no-overlap}
+use Rattle.fields.specs.declared.StatusReading.{StatusReading}
+use Rattle.fields.specs.declared.StatusReading.the-variants as Status
+use Rattle.fields.specs.Others.{readStatus}
+use Rattle.fields.proofs.OtherLaws.{live-exactly, cancelled-exactly}
+use Rattle.fields.proofs.ByteLaws.{clash}
+use Rattle.text.specs.Answers.{answer}
+use Rattle.record.specs.Table.{Rule, placesFrom, anyCase, broken, verdict}
+use Rattle.record.specs.Readings.{whenOf, addressOf, contactOf, goodsOf, marksOf, setOf, tailOf, badStatus}
+use Rattle.record.specs.Rules.{malformed, givenOf, packOf, table, recordAnswer}
+use Rattle.record.proofs.Order.{noneBroken, accepted-exactly}
+
+-- ---- a part of a list, with one place outside it set
+pub part-set-before : {A : Type 0} (s : List A) (a w i : ℕ) (v : A) → i < a → take w (drop a (set s i v)) ≡ take w (drop a s)
+part-set-before s a w i v h = ap (take w) (drop-set-lt a s i v h)
+
+pub part-set-behind : {A : Type 0} (s : List A) (a w i : ℕ) (v : A) → a + w ≤ i → take w (drop a (set s i v)) ≡ take w (drop a s)
+part-set-behind s a w i v h =
+    let there : a + (i - a) ≡ i = omega arith in
+    let shifted : drop a (set s i v) ≡ set (drop a s) (i - a) v = rw there at (drop-set-add a s (i - a) v) in
+    ap (take w) shifted ∙ take-set-le w (drop a s) (i - a) v (omega arith)
+
+-- ---- a record with its status set to "0 "
+abbrev withdrawn : List ℕ → List ℕ
+withdrawn rec = set (set rec 340 48) 341 32
+
+pub withdrawn-long : (rec : List ℕ) → length (set (set rec 340 48) 341 32) ≡ length rec
+withdrawn-long rec = length-set (set rec 340 48) 341 32 ∙ length-set rec 340 48
+
+-- a field that ends before the status, and one that starts behind it
+cut-before : (rec : List ℕ) (k : ℕ) → k < 18 → cut widths (withdrawn rec) k ≡ cut widths rec k
+cut-before rec k h =
+    let ends = no-overlap widths k 18 h (omega arith) in
+    part-set-behind (set rec 340 48) (start widths k) (getD widths k 0) 341 32 (omega arith)
+    ∙ part-set-behind rec (start widths k) (getD widths k 0) 340 48 (omega arith)
+
+cut-behind : (rec : List ℕ) (k : ℕ) → 18 < k → k < 26 → cut widths (withdrawn rec) k ≡ cut widths rec k
+cut-behind rec k h g =
+    let starts = no-overlap widths 18 k h g in
+    part-set-before (set rec 340 48) (start widths k) (getD widths k 0) 341 32 (omega arith)
+    ∙ part-set-before rec (start widths k) (getD widths k 0) 340 48 (omega arith)
+
+-- every other field stays
+pub withdrawn-others : (rec : List ℕ) (n : ℕ) → (n ≡ 19 → ⊥) → fieldOf (set (set rec 340 48) 341 32) n ≡ fieldOf rec n
+unfolding fieldOf
+withdrawn-others rec n other = rw (withdrawn-long rec) (go (eqb (length rec) 399 && isField n) refl)
+  where
+    there : (b : Bool) → ltb n 19 ≡ b → isField n ≡ true → cut widths (withdrawn rec) (n - 1) ≡ cut widths rec (n - 1)
+    there b e f =
+        let range = and-eq-true-iff (leb 1 n) (leb n 26) .0 f in
+        by b e (leb-true 1 n (range .0)) (leb-true n 26 (range .1))
+      where
+        by : (b : Bool) → ltb n 19 ≡ b → 1 ≤ n → n ≤ 26 → cut widths (withdrawn rec) (n - 1) ≡ cut widths rec (n - 1)
+        by true e low high = let l = ltb-true n 19 e in cut-before rec (n - 1) (omega arith)
+        by false e low high = let l = ltb-false n 19 e in cut-behind rec (n - 1) (omega (arith, other)) (omega arith)
+
+    go : (t : Bool) → eqb (length rec) 399 && isField n ≡ t → cond t (cut widths (withdrawn rec) (n - 1)) [] ≡ cond t (cut widths rec (n - 1)) []
+    go true e = there (ltb n 19) refl (and-eq-true-iff (eqb (length rec) 399) (isField n) .0 e .1)
+    go false e = refl
+
+-- and the status is "0 "
+pub withdrawn-status : (rec : List ℕ) → length rec ≡ 399 → fieldOf (set (set rec 340 48) 341 32) 19 ≡ 48 ∷ 32 ∷ []
+unfolding fieldOf
+withdrawn-status rec long =
+    let wide : length (withdrawn rec) ≡ 399 = withdrawn-long rec ∙ long in
+    let one : length (set rec 340 48) ≡ 399 = length-set rec 340 48 ∙ long in
+    let first : getD (withdrawn rec) 340 0 ≡ 48 = getD-set-other (set rec 340 48) 341 340 32 0 (λ e. omega arith) ∙ getD-set-same rec 340 48 0 (omega arith) in
+    let second : getD (withdrawn rec) 341 0 ≡ 32 = getD-set-same (set rec 340 48) 341 32 0 (omega arith) in
+    let bytes : take 2 (drop 340 (withdrawn rec)) ≡ 48 ∷ 32 ∷ [] = rw (drop-cons (withdrawn rec) 340 0 (omega arith), drop-cons (withdrawn rec) 341 0 (omega arith), first, second) in
+    rw (eq-eqb (length (withdrawn rec)) 399 wide) bytes
+
+-- ---- two records that differ in the status alone, under either table
+pub status-only : (p q : Bool) (rec new : List ℕ) → ((n : ℕ) → (n ≡ 19 → ⊥) → fieldOf new n ≡ fieldOf rec n)
+    → badStatus q (readStatus (fieldOf new 19)) ≡ badStatus p (readStatus (fieldOf rec 19)) → noneBroken (table q new) ≡ noneBroken (table p rec)
+unfolding table givenOf packOf
+status-only p q rec new same e =
+    let other : (n : ℕ) → eqb n 19 ≡ false → fieldOf new n ≡ fieldOf rec n = λ n h. same n (eqb-false n 19 h) in
+    rw (e, other 1 refl, other 2 refl, other 3 refl, other 4 refl, other 5 refl, other 6 refl, other 7 refl, other 8 refl, other 9 refl, other 10 refl, other 11 refl, other 12 refl, other 13 refl, other 14 refl, other 15 refl, other 16 refl, other 17 refl, other 18 refl, other 20 refl, other 21 refl, other 22 refl, other 23 refl, other 24 refl, other 25 refl, other 26 refl)
+
+-- ---- a record that keeps a table has a status that it allows
+no-flag : (bs : List Bool) (p k : ℕ) → anyCase (placesFrom p bs) ≡ false → getD bs k false ≡ false
+no-flag [] p k h = refl
+no-flag (true ∷ bs) p k h = absurd (clash true refl h)
+no-flag (false ∷ bs) p zero h = refl
+no-flag (false ∷ bs) p (suc k) h = no-flag bs (suc p) k h
+
+second-kept : (r s : Rule) (rs : List Rule) → noneBroken (r ∷ s ∷ rs) ≡ true → broken s ≡ false
+unfolding noneBroken
+second-kept r s rs h = go (broken r) (broken s) h
+  where
+    go : (a b : Bool) → cond a false (cond b false (noneBroken rs)) ≡ true → b ≡ false
+    go true b e = absurd (clash false e refl)
+    go false true e = absurd (clash false e refl)
+    go false false e = refl
+
+pub status-allowed : (posting : Bool) (rec : List ℕ) → noneBroken (table posting rec) ≡ true → badStatus posting (readStatus (fieldOf rec 19)) ≡ false
+unfolding table
+status-allowed posting rec h =
+    no-flag (malformed posting (whenOf rec) (addressOf rec) (contactOf rec) (goodsOf rec) (marksOf rec) (setOf rec) (tailOf rec)) 2 17 (second-kept _ _ _ h)
+
+-- ---- a record that may be posted
+posting-long : (rec : List ℕ) → recordAnswer true rec .code ≡ 0 → length rec ≡ 399
+unfolding recordAnswer
+posting-long rec z = go (eqb (length rec) 399) refl z
+  where
+    go : (t : Bool) → eqb (length rec) 399 ≡ t → cond t (verdict (table true rec)) (answer 236 0) .code ≡ 0 → length rec ≡ 399
+    go true e z = eqb-true (length rec) 399 e
+    go false e z = absurd (omega arith)
+
+pub posting-passes : (rec : List ℕ) → recordAnswer true rec .code ≡ 0 → (length rec ≡ 399) × (fieldOf rec 19 ≡ 32 ∷ 32 ∷ []) × (recordAnswer false rec .code ≡ 0)
+posting-passes rec z =
+    let long = posting-long rec z in
+    let kept = accepted-exactly true rec long .0 z in
+    go (readStatus (fieldOf rec 19)) refl long kept (status-allowed true rec kept)
+  where
+    go : (s : StatusReading) → readStatus (fieldOf rec 19) ≡ s → length rec ≡ 399 → noneBroken (table true rec) ≡ true → badStatus true s ≡ false
+        → (length rec ≡ 399) × (fieldOf rec 19 ≡ 32 ∷ 32 ∷ []) × (recordAnswer false rec .code ≡ 0)
+    go Status.Live e long kept a = (
+      long,
+      live-exactly (fieldOf rec 19) .0 e,
+      accepted-exactly false rec long .1 (status-only true false rec rec (λ n h. refl) (ap (badStatus false) e ∙ sym (ap (badStatus true) e)) ∙ kept),
+    )
+    go Status.Cancelled e long kept a = absurd (clash true refl a)
+    go Status.Malformed e long kept a = absurd (clash true refl a)
+
+-- ---- a record whose status is set to "0 "
+pub withdrawn-passes : (rec : List ℕ) → length rec ≡ 399 → recordAnswer false rec .code ≡ 0 → recordAnswer false (set (set rec 340 48) 341 32) .code ≡ 0
+withdrawn-passes rec long z =
+    let kept = accepted-exactly false rec long .0 z in
+    let status : badStatus false (readStatus (fieldOf (withdrawn rec) 19)) ≡ false = ap (badStatus false) (cancelled-exactly _ .1 (withdrawn-status rec long)) in
+    accepted-exactly false (withdrawn rec) (withdrawn-long rec ∙ long) .1
+    (status-only false false rec (withdrawn rec) (withdrawn-others rec) (status ∙ sym (status-allowed false rec kept)) ∙ kept)
