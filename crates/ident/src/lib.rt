@@ -240,10 +240,10 @@ fn fill(id: &mut [u8], p: Parts)
 }
 
 // Writes the identifier of these parts into the lent part, if some right identifier has them.
-pub fn write(id: &mut [u8], p: Parts) -> Answer
-    ensures { λ r. ⌜ Written (now (id .entry)) p r (now (id .exit)) ⌝ }
+pub fn write(part: &mut [u8], p: Parts) -> Answer
+    ensures { λ r. ⌜ Written (now (part .entry)) p r (now (part .exit)) ⌝ }
 {
-    if id.len() != 13 {
+    if part.len() != 13 {
         return Answer {
             code: 236,
             place: 0,
@@ -252,7 +252,7 @@ pub fn write(id: &mut [u8], p: Parts) -> Answer
     if !can_write(p) {
         return Answer { code: 1, place: 1 };
     }
-    fill(id, p);
+    fill(part, p);
     Answer { code: 0, place: 0 }
 }
 

@@ -1,13 +1,13 @@
 -- `ident::write` meets its contract.
 -- Assumes nothing.
-use borrow.Author.Needs.{needs}
+use native.Mathlib.Omega.{arith}
 use Rattle.ident.proofs.Ways.{write-size, write-none, write-done, can-fill}
 use borrow.Author.Needs.{needs}
 use Rattle.ident.proofs.write.Statement.{statement}
 use Rattle.ident.proofs.write.Tie as tie
 
 returns : tie.Need-returns
-returns c = search write-size
+returns c = write-size _ _ (omega arith)
 
 can-write-requires : tie.Need-can-write-requires
 can-write-requires c κs = search needs

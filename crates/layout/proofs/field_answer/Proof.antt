@@ -1,13 +1,13 @@
 -- `layout::field_answer` meets its contract.
 -- Assumes nothing.
-use borrow.Author.Needs.{needs}
+use native.Mathlib.Omega.{arith}
 use Rattle.layout.proofs.Ways.{answers-length, answers-there, answers-none}
 use borrow.Author.Needs.{needs}
 use Rattle.layout.proofs.field_answer.Statement.{statement}
 use Rattle.layout.proofs.field_answer.Tie as tie
 
 returns : tie.Need-returns
-returns c = search answers-length
+returns c = answers-length _ _ (omega arith)
 
 is-field-requires : tie.Need-is-field-requires
 is-field-requires c κs = search needs
