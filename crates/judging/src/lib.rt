@@ -3,6 +3,7 @@
 ghost use Prim.Native.Nat.{_<_};
 ghost use lib.ListN.{length};
 ghost use Rattle.io.specs.Counts.{Counts};
+ghost use Rattle.judging.specs.Calls.{Answered};
 use items::Next;
 use items::Taken;
 use libc::STDERR_FILENO;
@@ -16,6 +17,9 @@ pub enum Kind {
     Records,
     Files,
 }
+
+// A loop has to end, and nothing says that a file does: no file of vectors has so many items.
+const MOST: u64 = 1_000_000;
 
 // A number, and behind it a space, or a line feed if it is the last of its line.
 fn print_number(n: u64, last: bool) -> bool {
@@ -129,24 +133,30 @@ fn answer_next(kind: Kind, fd: i32, path: &[u8]) -> bool {
     }
 }
 
-fn answer_rest(kind: Kind, fd: i32, path: &[u8]) {
-    // A loop has to end, and nothing says that a file does: no file has so many items.
-    let mut turns = u64::MAX;
-    while 0 < turns {
+// Answers the items that are left, and gives how many.
+fn answer_rest(kind: Kind, fd: i32, path: &[u8]) -> u64
+    ensures { λ r. ⌜ Answered r ⌝ }
+{
+    let mut answered: u64 = 0;
+    while answered < MOST {
         if !answer_next(kind, fd, path) {
-            return;
+            return answered;
         }
-        turns -= 1;
+        answered += 1;
     }
+    answered
 }
 
-// Answers each item of the file. No contract can say what a file holds, nor what is written.
-pub fn answer_all(kind: Kind, path: &[u8]) {
+// Answers each item of the file, and gives how many. No contract can say what a file holds, nor what is written.
+pub fn answer_all(kind: Kind, path: &[u8]) -> u64
+    ensures { λ r. ⌜ Answered r ⌝ }
+{
     let fd = os::open_read(path);
     if fd < 0 {
         os::fail(path);
-        return;
+        return 0;
     }
-    answer_rest(kind, fd, path);
+    let answered = answer_rest(kind, fd, path);
     libc::close(fd);
+    answered
 }
