@@ -1,15 +1,16 @@
--- The paper's marked examples 9 to 13, computed over the definitions.
+-- The paper's marked examples, in its order: one list, under the one claim `shown`, computed over the definitions.
 -- Assumes nothing.
 use Prim.Native.Nat.{ℕ, _-_}
 use Prim.Native.String.{String}
 use mathlib.Core.Path.{_≡_, refl}
 use mathlib.Core.List.{List, [], _∷_, _++_}
-use mathlib.Core.Bool.{Bool, true, false, _&&_}
+use mathlib.Core.Bool.{Bool, true, false, not, _&&_}
 use lib.Dec.{eqb}
 use lib.ListN.{length, replicate}
 use Rattle.text.specs.Bytes.{every, run}
 use Rattle.text.specs.Numbers.{numberAfter}
 use Rattle.text.specs.Texts.{bytes, allHold}
+use Rattle.ident.specs.Identifier.{shapeOf, weighted, sumOf, remainder, endsRight, rightId}
 use Rattle.fields.specs.declared.DateReading.{DateReading}
 use Rattle.fields.specs.declared.DateReading.the-variants as Date
 use Rattle.fields.specs.declared.WeightReading.{WeightReading}
@@ -24,7 +25,17 @@ use Rattle.fields.specs.Dates.{daysIn, readDate}
 use Rattle.fields.specs.Amounts.{isMoney, readWeight, readMoney}
 use Rattle.fields.specs.Services.{codesFrom, hasCode, noServices, withCode, added, readServices}
 
--- a text in a field of width w, with spaces behind it
+-- ---- an identifier, right or wrong, with its weighted sum and the remainder
+unfoldable pub adds : List ℕ → ℕ → ℕ → Bool
+adds s sum rest = eqb (sumOf s) sum && eqb (remainder s) rest
+
+unfoldable pub right : String → ℕ → ℕ → Bool
+right t sum rest = rightId (bytes t) && adds (bytes t) sum rest
+
+unfoldable pub wrong : String → ℕ → ℕ → Bool
+wrong t sum rest = not (rightId (bytes t)) && adds (bytes t) sum rest
+
+-- ---- a text in a field of width w, with spaces behind it
 unfoldable pub inField : ℕ → String → List ℕ
 inField w t = bytes t ++ replicate (w - length (bytes t)) 32
 
@@ -68,9 +79,19 @@ unfoldable pub badDate : DateReading → Bool
 badDate (Date.Value d) = false
 badDate Date.Malformed = true
 
+-- ---- the list
 unfoldable pub claims : List Bool
 claims =
-    isHellers 0 (readMoney (inField 12 "0.00"))  -- 9
+    right "BO5412345671F" 197 10  -- 1
+    ∷ right "EE021831216CZ" 71 5  -- 2
+    ∷ right "BO3601002029C" 79 2  -- 3
+    ∷ wrong "BO0800000026F" 78 1  -- 4, as printed
+    ∷ right "BO0800000020F" 78 1  -- 4, corrected
+    ∷ wrong "BO0810000026U" 84 7  -- 5, as printed
+    ∷ right "BO0810000024U" 84 7  -- 5, corrected
+    ∷ right "BO0100010005F" 11 0  -- 7
+    ∷ right "BO0100010045F" 39 6  -- 7
+    ∷ isHellers 0 (readMoney (inField 12 "0.00"))  -- 9
     ∷ isHellers 99999999999 (readMoney (inField 12 "999999999.99"))  -- 9
     ∷ badMoney (readMoney (inField 12 "00.50"))  -- 10
     ∷ badMoney (readMoney (inField 12 "1.5"))  -- 10
@@ -89,5 +110,5 @@ claims =
     ∷ []
 
 pub shown : allHold claims ≡ true
-unfolding bytes allHold every run numberAfter framed daysIn readDate isMoney codesFrom hasCode withCode added readServices inField isHellers badMoney isGrams badWeight isSet badServices isDate badDate claims
+unfolding bytes allHold every run numberAfter shapeOf weighted endsRight rightId adds right wrong framed daysIn readDate isMoney codesFrom hasCode withCode added readServices inField isHellers badMoney isGrams badWeight isSet badServices isDate badDate claims
 shown = refl
