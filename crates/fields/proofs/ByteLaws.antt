@@ -75,7 +75,7 @@ module _ (test : ℕ → Bool) where
   every-drop (suc n) (b ∷ s) h = every-drop n s (both-right (test b) (every test s) h)
 
 -- ---- blank
-spaces-blank : (w : ℕ) → isBlank (replicate w 32) ≡ true
+pub spaces-blank : (w : ℕ) → isBlank (replicate w 32) ≡ true
 unfolding every
 spaces-blank zero = refl
 spaces-blank (suc w) = spaces-blank w

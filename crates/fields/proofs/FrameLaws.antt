@@ -1,7 +1,7 @@
--- Readings turned round: what is known of a part whose reading is a value, and when a reading is absent.
+-- Readings turned round: how one came about, what is known of a part whose reading is a value, and when a reading is absent.
 -- Assumes nothing.
 use Prim.Native.Nat.{ℕ}
-use mathlib.Core.Path.{_≡_, refl}
+use mathlib.Core.Path.{_≡_, refl, sym, _∙_}
 use mathlib.Core.Bool.{Bool, true, false, cond}
 use mathlib.Core.Logic.{_↔_}
 use mathlib.Core.List.{List}
@@ -23,42 +23,47 @@ module _ {A : Type 0} (absent malformed : A) (w : ℕ) (f : List ℕ) (good : Bo
   abbrev reading : A
   reading = framed absent malformed w f good value
 
-  filled-of : (v : A) (a b c : Bool) → (absent ≡ v → ⊥) → (malformed ≡ v → ⊥) → eqb (length f) w ≡ a → isBlank f ≡ b → good ≡ c
-      → cond a (cond b absent (cond c value malformed)) malformed ≡ v → GoodPart w f good × (value ≡ v)
-  filled-of v false b c na nm ea eb ec h = absurd (nm h)
-  filled-of v true true c na nm ea eb ec h = absurd (na h)
-  filled-of v true false false na nm ea eb ec h = absurd (nm h)
-  filled-of v true false true na nm ea eb ec h = (record { long = eqb-true (length f) w ea; filled = eb; fine = ec }, h)
+  -- how a reading came about: the part was blank, or good, or neither
+  pub data Way (r : A) : Type 0 where
+    blank : r ≡ absent → f ≡ replicate w 32 → Way r
+    valued : r ≡ value → GoodPart w f good → Way r
+    neither : r ≡ malformed → Way r
+
+  pub way : Way reading
+  unfolding framed
+  way = go (eqb (length f) w) (isBlank f) good refl refl refl
+    where
+      go : (l b g : Bool) → eqb (length f) w ≡ l → isBlank f ≡ b → good ≡ g → Way (cond l (cond b absent (cond g value malformed)) malformed)
+      go false b g el eb eg = neither refl
+      go true true g el eb eg = blank refl (blank-exactly w f .0 (eqb-true (length f) w el, eb))
+      go true false true el eb eg = valued refl (record { long = eqb-true (length f) w el; filled = eb; fine = eg })
+      go true false false el eb eg = neither refl
 
   -- a reading is some v other than absent and malformed exactly if the part is good, and its value is v
   pub value-exactly : (v : A) → (absent ≡ v → ⊥) → (malformed ≡ v → ⊥) → (reading ≡ v) ↔ (GoodPart w f good × (value ≡ v))
   unfolding framed
   value-exactly v na nm = (
-    λ h. filled-of v (eqb (length f) w) (isBlank f) good na nm refl refl refl h,
+    λ h. go h way,
     λ p. rw (eq-eqb (length f) w (p .0 .long), p .0 .filled, p .0 .fine) (p .1),
   )
+    where
+      go : reading ≡ v → Way reading → GoodPart w f good × (value ≡ v)
+      go h (blank e s) = absurd (na (sym e ∙ h))
+      go h (valued e p) = (p, sym e ∙ h)
+      go h (neither e) = absurd (nm (sym e ∙ h))
 
-  absent-of : (a b c : Bool) → (value ≡ absent → ⊥) → (malformed ≡ absent → ⊥) → eqb (length f) w ≡ a → isBlank f ≡ b
-      → cond a (cond b absent (cond c value malformed)) malformed ≡ absent → (length f ≡ w) × (isBlank f ≡ true)
-  absent-of false b c nv nm ea eb h = absurd (nm h)
-  absent-of true true c nv nm ea eb h = (eqb-true (length f) w ea, eb)
-  absent-of true false true nv nm ea eb h = absurd (nv h)
-  absent-of true false false nv nm ea eb h = absurd (nm h)
-
-  -- a reading is absent exactly if the part has the field's width and is blank
-  pub absent-exactly : (value ≡ absent → ⊥) → (malformed ≡ absent → ⊥) → (reading ≡ absent) ↔ ((length f ≡ w) × (isBlank f ≡ true))
-  unfolding framed
-  absent-exactly nv nm = (
-    λ h. absent-of (eqb (length f) w) (isBlank f) good nv nm refl refl h,
-    λ p. rw (eq-eqb (length f) w (p .0), p .1),
-  )
-
-  -- that is, if it is as many spaces
+  -- a reading is absent exactly if the part is spaces, as many as the field is wide
   pub absent-spaces : (value ≡ absent → ⊥) → (malformed ≡ absent → ⊥) → (reading ≡ absent) ↔ (f ≡ replicate w 32)
+  unfolding framed
   absent-spaces nv nm = (
-    λ h. blank-exactly w f .0 (absent-exactly nv nm .0 h),
-    λ e. absent-exactly nv nm .1 (blank-exactly w f .1 e),
+    λ h. go h way,
+    λ e. let p = blank-exactly w f .1 e in rw (eq-eqb (length f) w (p .0), p .1),
   )
+    where
+      go : reading ≡ absent → Way reading → f ≡ replicate w 32
+      go h (blank e s) = s
+      go h (valued e p) = absurd (nv (sym e ∙ h))
+      go h (neither e) = absurd (nm (sym e ∙ h))
 
 -- ---- a field that may not be blank
 pub chosen-exactly : {A : Type 0} (malformed value v : A) (a b : Bool) → (malformed ≡ v → ⊥)

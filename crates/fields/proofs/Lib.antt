@@ -11,7 +11,6 @@ pub mod NumberLaws
 pub mod TextLaws
 pub mod MailLaws
 pub mod OtherLaws
-pub mod Readings
 pub mod WeightLaws
 pub mod MoneyLaws
 pub mod ServicesLaws

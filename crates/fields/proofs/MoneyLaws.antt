@@ -24,7 +24,8 @@ use Rattle.fields.specs.declared.MoneyReading.the-variants as Money
 use Rattle.fields.specs.Frame.{framed}
 use Rattle.fields.specs.Amounts.{crownDigits, isMoney, hellersIn, hellers, readMoney, moneyText}
 use Rattle.fields.specs.Calls.{hasMoneyText, moneyBytes}
-use Rattle.fields.proofs.Readings.{blank-is, spaces-blank, Way, blank, filled, neither, way}
+use Rattle.fields.proofs.ByteLaws.{spaces-blank, blank-exactly}
+use Rattle.fields.proofs.FrameLaws.{Way, blank, valued, neither, way}
 
 -- ---- crowns, a dot, two digits, spaces: what such a field reads as
 module _ (c d s : List ℕ) (p : ℕ) (long₁ : length c ≡ p) (long₂ : length d ≡ 2) (long₃ : length s ≡ 9 - p) (low : 1 ≤ p) (high : p ≤ 9)
@@ -182,7 +183,7 @@ module _ (f : List ℕ) (p : ℕ) (long : length f ≡ 12) (form : Form f p) (cr
 
   good-text : f ≡ moneyText v
   unfolding moneyText
-  good-text = rw (crowns-long, hundredth, digits-number p c long-c crowns, places-are, ← blank-is s (9 - p) long-s (form .rest)) field-is
+  good-text = rw (crowns-long, hundredth, digits-number p c long-c crowns, places-are, ← blank-exactly (9 - p) s .0 (long-s, form .rest)) field-is
 
 good-is-written : (f : List ℕ) → length f ≡ 12 → isMoney f ≡ true → (hellersIn f < 100000000000) × (f ≡ moneyText (hellersIn f))
 good-is-written f long good =
@@ -204,9 +205,9 @@ read-is-written f v r = go (way Money.Absent Money.Malformed 12 f (isMoney f) (h
   where
     go : Way Money.Absent Money.Malformed 12 f (isMoney f) (hellers (hellersIn f)) (readMoney f) → (v < 100000000000) × (f ≡ moneyText v)
     go (blank e s) = let z : _≡_ {A = ℕ} 0 1 = cc in absurd (omega arith)
-    go (filled e long b good) =
+    go (valued e p) =
         let same : hellersIn f ≡ v = hellers-of (hellersIn f) v (sym e ∙ r) in
-        rw same at (good-is-written f long good)
+        rw same at (good-is-written f (p .long) (p .fine))
     go (neither e) = let z : _≡_ {A = ℕ} 0 1 = cc in absurd (omega arith)
 
 -- each number below 100000000000 has exactly one writing, and no other number has one
@@ -220,7 +221,7 @@ money-read-written f good = go (way Money.Absent Money.Malformed 12 f (isMoney f
   where
     go : Way Money.Absent Money.Malformed 12 f (isMoney f) (hellers (hellersIn f)) (readMoney f) → moneyBytes (readMoney f) ≡ f
     go (blank e s) = rw e (sym s)
-    go (filled e long b g) = rw e (sym (good-is-written f long g .1))
+    go (valued e p) = rw e (sym (good-is-written f (p .long) (p .fine) .1))
     go (neither e) = absurd (good e)
 
 -- ---- and a reading that has a writing, written and read: the reading again, absent where it was absent

@@ -19,7 +19,7 @@ use Rattle.fields.specs.declared.ServicesReading.the-variants.{Absent, V
 use Rattle.fields.specs.Texts.{contains}
 use Rattle.fields.specs.Services.{withDigit, codesFrom, codesOf, isCode, bit, hasCode, noServices, withCode, added, readServices}
 use Rattle.fields.proofs.Bits.{bit-with, bit-none}
-use Rattle.fields.proofs.Readings.{blank-is, spaces-blank}
+use Rattle.fields.proofs.ByteLaws.{spaces-blank, blank-exactly}
 
 -- ---- what the statements name
 -- codes in decimal, joined by "+"
@@ -290,7 +290,7 @@ module _ (c b : ℕ) (f : List ℕ) where
   back-other d p good = go (isBlank (b ∷ f)) refl (both-codes (cond (isBlank (b ∷ f)) c 100) [] (rw (d, p) at good) .0)
     where
       go : (t : Bool) → isBlank (b ∷ f) ≡ t → isCode (cond t c 100) ≡ true → (k : ℕ) × (soFar c ++ b ∷ f ≡ written (codesFrom c (b ∷ f)) ++ replicate k 32)
-      go true e code = (length (b ∷ f), rw (d, p, e, so-far c code) (ap (λ (x : List ℕ). decimal c ++ x) (blank-is (b ∷ f) (length (b ∷ f)) refl e)))
+      go true e code = (length (b ∷ f), rw (d, p, e, so-far c code) (ap (λ (x : List ℕ). decimal c ++ x) (blank-exactly (length (b ∷ f)) (b ∷ f) .0 (refl, e))))
       go false e code = let z : _≡_ {A = ℕ} 0 1 = cc in absurd (omega arith)
 
 codes-written : (c : ℕ) (f : List ℕ) → Back c f
@@ -349,7 +349,7 @@ writes-read f s cs w = go (isBlank f) refl (codes-are f s cs w)
   where
     go : (b : Bool) → isBlank f ≡ b → codesOf f ≡ cs → cond (eqb (length f) 30) (cond b Absent (added noServices (codesOf f))) Malformed ≡ Value s
     go true e codes =
-        let none : cs ≡ 0 ∷ [] = sym codes ∙ ap codesOf (blank-is f 30 (w .long) e) ∙ spaces-end 0 30 in
+        let none : cs ≡ 0 ∷ [] = sym codes ∙ ap codesOf (blank-exactly 30 f .0 (w .long, e)) ∙ spaces-end 0 30 in
         let z : _≡_ {A = ℕ} 0 1 = zero-no-code (ap (every isCode) (sym none) ∙ w .codes) in
         absurd (omega arith)
     go false e codes =

@@ -1,12 +1,12 @@
 -- Texts and e-mail: each turn of the loops, and each way out.
 -- Assumes nothing.
-use Prim.Native.Nat.{ℕ, zero, suc, _+_, _-_, _≤_, _<_}
+use Prim.Native.Nat.{ℕ, suc, _+_, _-_, _≤_, _<_}
 use mathlib.Core.Path.{_≡_, refl, sym, ap, _∙_}
-use mathlib.Core.Bool.{Bool, true, false, cond, not, _&&_, _||_, and-eq-true-iff, and-false, or-false}
+use mathlib.Core.Bool.{Bool, true, false, cond, not, _&&_, and-eq-true-iff, and-false, or-false}
 use mathlib.Core.List.{List, [], _∷_}
 use native.Mathlib.Omega.{arith}
 use native.Mathlib.Nat.{sub-zero}
-use borrow.Author.Tests.{eq-eqb, ne-eqb, lt-ltb, le-leb, lt-leb, eqb-true, eqb-false, leb-true, leb-false, not-true, not-false}
+use borrow.Author.Tests.{eq-eqb, ne-eqb, lt-ltb, le-leb, lt-leb, eqb-true, eqb-false, leb-true, leb-false}
 use lib.Dec.{eqb, leb, ltb}
 use lib.ListN.{length, getD, take, drop, length-drop, List·getD-eq-default}
 use lib.Seq.{take-all, drop-length}
@@ -14,8 +14,7 @@ use Rattle.text.specs.Bytes.{every, isBlank, run}
 use Rattle.text.specs.Lists.{part}
 use Rattle.text.proofs.Lists.{step, ended}
 use Rattle.fields.specs.declared.TextReading.the-variants.{Absent, Value, Malformed}
-use Rattle.fields.specs.Frame.{framed}
-use Rattle.fields.specs.Texts.{isText, filled, readText, isPlain, contains, atIn, behindAt, isHost, isMail, mailEnd, readMail}
+use Rattle.fields.specs.Texts.{isText, filled, readText, isPlain, contains, behindAt, isHost, isMail, mailEnd, readMail}
 use Rattle.fields.proofs.Frames.{frame-good, frame-bad}
 use Rattle.fields.proofs.TextLaws.{filled-blank, filled-exactly}
 

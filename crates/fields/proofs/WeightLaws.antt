@@ -18,7 +18,7 @@ use Rattle.fields.specs.declared.WeightReading.the-variants as Weight
 use Rattle.fields.specs.Frame.{framed}
 use Rattle.fields.specs.Amounts.{isWeight, gramsIn, grams, readWeight, weightText}
 use Rattle.fields.specs.Calls.{hasWeightText, weightBytes}
-use Rattle.fields.proofs.Readings.{Way, blank, filled, neither, way}
+use Rattle.fields.proofs.FrameLaws.{Way, blank, valued, neither, way}
 
 -- ---- the writing of a number is read back
 -- below 10 kg: a space, then the digits
@@ -152,9 +152,9 @@ read-is-written f v r = go (way Weight.Absent Weight.Malformed 6 f (isWeight f) 
   where
     go : Way Weight.Absent Weight.Malformed 6 f (isWeight f) (grams (gramsIn f)) (readWeight f) → (v < 100000) × (f ≡ weightText v)
     go (blank e s) = let z : _≡_ {A = ℕ} 0 1 = cc in absurd (omega arith)
-    go (filled e long b good) =
+    go (valued e p) =
         let same : gramsIn f ≡ v = grams-of (gramsIn f) v (sym e ∙ r) in
-        rw same at (good-is-written f long good)
+        rw same at (good-is-written f (p .long) (p .fine))
     go (neither e) = let z : _≡_ {A = ℕ} 0 1 = cc in absurd (omega arith)
 
 -- each number below 100000 has exactly one writing, and no other number has one
@@ -168,7 +168,7 @@ weight-read-written f good = go (way Weight.Absent Weight.Malformed 6 f (isWeigh
   where
     go : Way Weight.Absent Weight.Malformed 6 f (isWeight f) (grams (gramsIn f)) (readWeight f) → weightBytes (readWeight f) ≡ f
     go (blank e s) = rw e (sym s)
-    go (filled e long b g) = rw e (sym (good-is-written f long g .1))
+    go (valued e p) = rw e (sym (good-is-written f (p .long) (p .fine) .1))
     go (neither e) = absurd (good e)
 
 -- ---- and a reading that has a writing, written and read: the reading again, absent where it was absent

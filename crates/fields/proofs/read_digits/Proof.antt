@@ -3,7 +3,6 @@
 use borrow.Author.Needs.{needs}
 use Rattle.fields.proofs.Frames.{frame-blank}
 use Rattle.fields.proofs.Ways.{digits-value, digits-bad}
-use mathlib.Core.Path.{refl}
 use borrow.Author.Needs.{needs}
 use Rattle.fields.proofs.read_digits.Statement.{statement}
 use Rattle.fields.proofs.read_digits.Tie as tie
@@ -12,7 +11,7 @@ blank-requires : tie.Need-blank-requires
 blank-requires c κs = search needs
 
 returns : tie.Need-returns
-returns c = search (frame-blank, refl)
+returns c = search frame-blank
 
 all-digits-requires : tie.Need-all-digits-requires
 all-digits-requires c κs = search needs

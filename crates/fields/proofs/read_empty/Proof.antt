@@ -2,7 +2,6 @@
 -- Assumes nothing.
 use borrow.Author.Needs.{needs}
 use Rattle.fields.proofs.Frames.{frame-wide, frame-blank, frame-bad}
-use mathlib.Core.Path.{refl}
 use borrow.Author.Needs.{needs}
 use Rattle.fields.proofs.read_empty.Statement.{statement}
 use Rattle.fields.proofs.read_empty.Tie as tie
@@ -17,7 +16,7 @@ returns-2 : tie.Need-returns-2
 returns-2 c = search frame-blank
 
 returns-3 : tie.Need-returns-3
-returns-3 c = search (frame-bad, refl)
+returns-3 c = search frame-bad
 
 pub read-empty-spec : {M : Type 1} → statement M
 read-empty-spec = tie.close (tie.spec returns blank-requires returns-2 returns-3)
