@@ -1,3 +1,4 @@
+pub mod OneOutcome
 pub mod ActionWays
 pub mod JournalWays
 pub mod ReplayWays

@@ -214,10 +214,10 @@ module _ (a b : List ℕ) (n : ℕ) (la : length a ≡ n) (lb : length b ≡ 2) 
 crowns-few : (v : ℕ) → v < 100000000000 → places (v / 100) ≤ 9
 crowns-few v h = places-at-most 19 8 (v / 100) (omega arith)
 
-pub crowns-nine : (v n : ℕ) → v < 100000000000 → (n ≡ places (v / 100)) × (1 ≤ n) × (n ≤ 20) → n ≤ 9
+pub crowns-nine : (v n : ℕ) → v < 100000000000 → (n ≡ places (v / 100)) × ((1 ≤ n) × (n ≤ 20)) → n ≤ 9
 crowns-nine v n h en = rw (en .0) (crowns-few v h)
 
-module _ (s t u w : List ℕ) (v n : ℕ) (pre : (length s ≡ 12) × (v < 100000000000)) (en : (n ≡ places (v / 100)) × (1 ≤ n) × (n ≤ 20)) where
+module _ (s t u w : List ℕ) (v n : ℕ) (pre : (length s ≡ 12) × (v < 100000000000)) (en : (n ≡ places (v / 100)) × ((1 ≤ n) × (n ≤ 20))) where
   pub money-put : t ≡ replicate (length s) 32 → u ≡ overlay t 0 (digits n (v / 100)) → w ≡ overlay (set u n 46) (n + 1) (digits 2 v) → w ≡ moneyText v
   unfolding moneyText
   money-put et eu ew =

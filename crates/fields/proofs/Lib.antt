@@ -14,3 +14,4 @@ pub mod OtherLaws
 pub mod WeightLaws
 pub mod MoneyLaws
 pub mod ServicesLaws
+pub mod OneOutcome

@@ -5,3 +5,4 @@ pub mod Writing
 pub mod Facts
 pub mod SingleDigits
 pub mod RoundTrip
+pub mod OneOutcome

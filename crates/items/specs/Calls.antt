@@ -14,6 +14,9 @@ use Rattle.io.specs.Counts.{Counts}
 abbrev pub fourBytes : List ℕ → ℕ
 fourBytes s = getD s 0 0 + 256 * getD s 1 0 + 65536 * getD s 2 0 + 16777216 * getD s 3 0
 
+abbrev pub Decoded : List ℕ → ℕ → Type 0
+Decoded s r = (r ≡ fourBytes s) × (r < 2 ^ 32)
+
 -- an item's length is a number of four bytes
 abbrev pub Announced : Next → Type 0
 Announced (Length n) = n < 2 ^ 32

@@ -1,10 +1,10 @@
 // Files of items: four bytes of length, little-endian, and the bytes, one item behind the other.
 // There is no heap, and so an item's bytes go into a buffer that the caller lends.
 ghost use mathlib.Core.Path.{_≡_};
-ghost use Prim.Native.Nat.{min, _≤_, _<_, _^_};
+ghost use Prim.Native.Nat.{min, _≤_, _<_};
 ghost use lib.ListN.{length};
 ghost use Rattle.io.specs.Counts.{Counts};
-ghost use Rattle.items.specs.Calls.{fourBytes, Announced, Put};
+ghost use Rattle.items.specs.Calls.{Decoded, Announced, Put};
 
 // What stands next in a file.
 pub enum Next {
@@ -30,7 +30,7 @@ fn wide(b: u8) -> usize
 
 // The number that four bytes write, the lowest first.
 pub fn four_bytes(b: &[u8; 4]) -> usize
-    ensures { λ r. ⌜ (r ≡ fourBytes (now (b .entry))) × (r < 2 ^ 32) ⌝ }
+    ensures { λ r. ⌜ Decoded (now (b .entry)) r ⌝ }
 {
     wide(b[0]) + 256 * wide(b[1]) + 65536 * wide(b[2]) + 16777216 * wide(b[3])
 }

@@ -1,2 +1,3 @@
 pub mod Tiling
 pub mod Ways
+pub mod OneOutcome

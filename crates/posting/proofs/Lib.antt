@@ -1,3 +1,4 @@
+pub mod OneOutcome
 pub mod ReportWays
 pub mod Amounts
 pub mod Ways

@@ -35,7 +35,7 @@ line-ended ns i h = rw (ended ns i h)
 
 -- ---- line_length
 module _ (ns : List ℕ) (i c r : ℕ) (known : c + length (line (drop i ns)) ≡ r) where
-  pub count-on : (w : ℕ) → i < length ns → (w ≡ places (getD ns i 0)) × (1 ≤ w) × (w ≤ 20) → c + (w + 1) + length (line (drop (i + 1) ns)) ≡ r
+  pub count-on : (w : ℕ) → i < length ns → (w ≡ places (getD ns i 0)) × ((1 ≤ w) × (w ≤ 20)) → c + (w + 1) + length (line (drop (i + 1) ns)) ≡ r
   count-on w h e =
       let n : ℕ = getD ns i 0 in
       let here : length (line (drop i ns)) ≡ w + suc (length (line (drop (i + 1) ns))) =
@@ -78,7 +78,7 @@ set-behind s p a b h =
     set-split (overlay s a p) e b long ∙ ap (λ (k : ℕ). take e (overlay s a p) ++ b ∷ drop k (overlay s a p)) (sym (add-one e)) ∙ overlay-join s p (b ∷ []) a (omega arith)
 
 -- ---- put_number
-pub number-put : (s t : List ℕ) (a n b w : ℕ) → a + places n < length s → (w ≡ places n) × (1 ≤ w) × (w ≤ 20)
+pub number-put : (s t : List ℕ) (a n b w : ℕ) → a + places n < length s → (w ≡ places n) × ((1 ≤ w) × (w ≤ 20))
     → t ≡ digits (length (take (a + w - a) (drop a s))) n → set (putMid a (a + w - a) s t) (a + w) b ≡ overlay s a (decimal n ++ b ∷ [])
 number-put s t a n b w room ew e =
     let long : length (decimal n) ≡ w = length-digits (places n) n ∙ sym (ew .0) in

@@ -4,3 +4,4 @@ pub mod Loops
 pub mod Numbers
 pub mod Decimals
 pub mod Runs
+pub mod OneOutcome

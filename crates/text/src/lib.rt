@@ -1,7 +1,7 @@
 // What all parts share: the answer, byte classes, digits and the numbers that they write.
-ghost use mathlib.Core.Path.{_≡_};
 ghost use Prim.Native.Nat.{_-_, _≤_, _<_};
 ghost use lib.ListN.{length, replicate};
+ghost use Rattle.text.specs.Promises.{Gives, GivesWithin};
 ghost use Rattle.text.specs.Bytes.{isDigit, isCapital, allDigits, isBlank, run};
 ghost use Rattle.text.specs.Lists.{sameBytes};
 ghost use Rattle.text.specs.Numbers.{numberOfFirst, digits, places};
@@ -13,19 +13,19 @@ pub struct Answer {
 }
 
 pub fn is_digit(b: u8) -> bool
-    ensures { λ r. ⌜ r ≡ isDigit b ⌝ }
+    ensures { λ r. ⌜ Gives (isDigit b) r ⌝ }
 {
     (b'0' <= b) & (b <= b'9')
 }
 
 pub fn is_capital(b: u8) -> bool
-    ensures { λ r. ⌜ r ≡ isCapital b ⌝ }
+    ensures { λ r. ⌜ Gives (isCapital b) r ⌝ }
 {
     (b'A' <= b) & (b <= b'Z')
 }
 
 pub fn all_digits(s: &[u8]) -> bool
-    ensures { λ r. ⌜ r ≡ allDigits (now (s .entry)) ⌝ }
+    ensures { λ r. ⌜ Gives (allDigits (now (s .entry))) r ⌝ }
 {
     let mut i = 0;
     while i < s.len() {
@@ -38,7 +38,7 @@ pub fn all_digits(s: &[u8]) -> bool
 }
 
 pub fn blank(s: &[u8]) -> bool
-    ensures { λ r. ⌜ r ≡ isBlank (now (s .entry)) ⌝ }
+    ensures { λ r. ⌜ Gives (isBlank (now (s .entry))) r ⌝ }
 {
     let mut i = 0;
     while i < s.len() {
@@ -52,7 +52,7 @@ pub fn blank(s: &[u8]) -> bool
 
 // Whether two slices of any length are the same bytes.
 pub fn same(a: &[u8], b: &[u8]) -> bool
-    ensures { λ r. ⌜ r ≡ sameBytes (now (a .entry)) (now (b .entry)) ⌝ }
+    ensures { λ r. ⌜ Gives (sameBytes (now (a .entry)) (now (b .entry))) r ⌝ }
 {
     if a.len() != b.len() {
         return false;
@@ -69,7 +69,7 @@ pub fn same(a: &[u8], b: &[u8]) -> bool
 
 // How many digits stand at the front.
 pub fn leading_digits(s: &[u8]) -> usize
-    ensures { λ r. ⌜ (r ≡ run isDigit (now (s .entry))) × (r ≤ length (now (s .entry))) ⌝ }
+    ensures { λ r. ⌜ GivesWithin (run isDigit (now (s .entry))) (λ n. n ≤ length (now (s .entry))) r ⌝ }
 {
     let mut i = 0;
     while i < s.len() {
@@ -83,14 +83,14 @@ pub fn leading_digits(s: &[u8]) -> usize
 
 // A digit's value; 0 for a byte below the digits.
 pub fn digit_value(b: u8) -> u64
-    ensures { λ r. ⌜ (r ≡ b - 48) × (r < 208) ⌝ }
+    ensures { λ r. ⌜ GivesWithin (b - 48) (λ n. n < 208) r ⌝ }
 {
     if b < b'0' { 0 } else { (b - b'0') as u64 }
 }
 
 // The number that digits write. No field has more than 16 of them, and so the bytes behind the 16th are not read.
 pub fn number(s: &[u8]) -> u64
-    ensures { λ r. ⌜ r ≡ numberOfFirst 16 (now (s .entry)) ⌝ }
+    ensures { λ r. ⌜ Gives (numberOfFirst 16 (now (s .entry))) r ⌝ }
 {
     let mut n: u64 = 0;
     let mut i = 0;
@@ -106,7 +106,7 @@ pub fn number(s: &[u8]) -> u64
 
 // Fills the lent part with the last decimal places of n, as many as it is long.
 pub fn put_digits(part: &mut [u8], n: u64)
-    ensures { λ _. ⌜ now (part .exit) ≡ digits (length (now (part .entry))) n ⌝ }
+    ensures { λ _. ⌜ Gives (digits (length (now (part .entry))) n) (now (part .exit)) ⌝ }
 {
     let mut i = part.len();
     let mut rest = n;
@@ -119,7 +119,7 @@ pub fn put_digits(part: &mut [u8], n: u64)
 
 // As many decimal places as n has.
 pub fn places(n: u64) -> usize
-    ensures { λ r. ⌜ (r ≡ places n) × (1 ≤ r) × (r ≤ 20) ⌝ }
+    ensures { λ r. ⌜ GivesWithin (places n) (λ k. (1 ≤ k) × (k ≤ 20)) r ⌝ }
 {
     let mut rest = n;
     let mut count: usize = 1;
@@ -134,7 +134,7 @@ pub fn places(n: u64) -> usize
 }
 
 pub fn fill(part: &mut [u8], b: u8)
-    ensures { λ _. ⌜ now (part .exit) ≡ replicate (length (now (part .entry))) b ⌝ }
+    ensures { λ _. ⌜ Gives (replicate (length (now (part .entry))) b) (now (part .exit)) ⌝ }
 {
     let mut i = 0;
     while i < part.len() {

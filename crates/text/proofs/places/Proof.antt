@@ -19,7 +19,7 @@ loop-holds : tie.Need-loop-holds Inv-loop μ-loop
 loop-holds c = (omega arith, omega arith, omega arith)
 
 returns : tie.Need-returns Inv-loop μ-loop
-returns c = (search places-stop, omega arith, omega arith)
+returns c = (search places-stop, (omega arith, omega arith))
 
 add-count : tie.Need-add-count Inv-loop μ-loop
 add-count c = search needs
@@ -31,7 +31,7 @@ loop-again : tie.Need-loop-again Inv-loop μ-loop
 loop-again c = (omega arith, omega arith, search places-on)
 
 returns-2 : tie.Need-returns-2 Inv-loop μ-loop
-returns-2 c = let l = c .before .loop in (places-last (l .count) (l .rest) _ (omega arith) (l .inv .2), omega arith, omega arith)
+returns-2 c = let l = c .before .loop in (places-last (l .count) (l .rest) _ (omega arith) (l .inv .2), (omega arith, omega arith))
 
 pub places-spec : {M : Type 1} → statement M
 places-spec =
