@@ -43,18 +43,8 @@ fn print_answer(answer: Answer) -> bool {
 }
 
 fn print_file_answer(answer: FileAnswer) -> bool {
-    let totals = answer.totals;
-    print_line(
-        &[
-            answer.code as u64,
-            answer.number as u64,
-            answer.place as u64,
-            totals.live,
-            totals.cancelled,
-            totals.cash.0,
-            totals.price.0,
-        ],
-    )
+    let numbers = posting::numbers_of(answer);
+    print_line(&numbers)
 }
 
 fn tell_broken(path: &[u8]) {

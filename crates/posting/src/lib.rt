@@ -197,8 +197,8 @@ pub fn check(file: &[u8]) -> FileAnswer
 // ---- the line of seven numbers
 
 // Code, record, place, live, cancelled, haléře on delivery, haléře specified.
-fn numbers_of(a: FileAnswer) -> [u64; 7]
-    ensures { λ r. ⌜ r ≡ numbersOf a ⌝ }
+pub fn numbers_of(a: FileAnswer) -> [u64; 7]
+    ensures { λ r. ⌜ Gives (numbersOf a) r ⌝ }
 {
     let t = a.totals;
     [
