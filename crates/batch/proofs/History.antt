@@ -1,18 +1,19 @@
 -- The history of a batch: whatever is called after an opening, file, counts and journal are what the standing list makes, and every answer is that of the rules.
 -- Assumes nothing.
-use Prim.Native.Nat.{ℕ, _+_, _*_, _≤_}
+use Prim.Native.Nat.{ℕ, _%_}
 use mathlib.Core.Path.{_≡_, refl, sym, ap, _∙_, subst}
-use mathlib.Core.Bool.{Bool, true, false, cond}
+use mathlib.Core.Bool.{Bool, true, false, cond, _&&_, and-eq-true-iff}
+use mathlib.Core.Logic.{_↔_}
 use mathlib.Core.List.{List, [], _∷_, _++_, map, append-assoc, append-nil}
 use native.Mathlib.Omega.{arith}
-use borrow.Author.Tests.{eq-eqb, ne-eqb, eqb-true, eqb-false}
-use lib.Dec.{eqb}
+use borrow.Author.Tests.{eq-eqb, eqb-true, leb-true, le-leb}
+use lib.Dec.{eqb, leb}
 use lib.ListN.{length, take, drop}
 use Rattle.text.specs.declared.Answer.{Answer}
 use Rattle.text.specs.Answers.{answer, accepted}
 use Rattle.batch.specs.Journal.{zeros}
 use Rattle.batch.specs.Batch.{Batch, batchOf, noCounts, Call, Open, Add, Amend, Cancel, Undo, rightLengths, sound, ready, answerTo, after}
-use Rattle.batch.specs.History.{Action, Addition, Amendment, Cancellation, callOf, undoRule, rules, made, InTurnBehind, InTurn, run, answersOf, withoutLatest, standingAfter, standingFrom, standing, History, Undoes}
+use Rattle.batch.specs.History.{Action, Addition, Amendment, Cancellation, callOf, undoRule, rules, made, InTurnBehind, InTurn, run, answersOf, withoutLatest, standingAfter, standingFrom, standing, GoodLengths, History, Performed, Undoes}
 use Rattle.batch.proofs.Parsing.{by-cond}
 use Rattle.batch.proofs.Exactly.{Stands, stands-exactly, Found, found}
 use Rattle.batch.proofs.Turning.{answered-by-rules, Taken, none-stands, opening, turned}
@@ -27,37 +28,11 @@ module _ (n m : ℕ) (good : rightLengths n m ≡ true) where
       subst (λ (b : Batch). Taken n m (run b calls) (standingFrom (cond (eqb (answerTo (made n m xs) call .code) 0) (standingAfter xs call) xs) calls (answersOf b calls))) (sym (t .is))
       (runs calls (cond (eqb (answerTo (made n m xs) call .code) 0) (standingAfter xs call) xs) (t .stands))
 
--- ---- after an opening that is accepted, whatever the buffers held
-opened-lengths : (b : Batch) → answerTo b Open .code ≡ 0 → rightLengths (length (b .file)) (length (b .journal)) ≡ true
-unfolding answerTo
-opened-lengths b = by-cond P (rightLengths (length (b .file)) (length (b .journal))) _ _ (λ e h. e) (λ e h. absurd (omega (arith, h)))
-  where
-    P : Answer → Type 0
-    P r = r .code ≡ 0 → rightLengths (length (b .file)) (length (b .journal)) ≡ true
-
-opened-is : (b : Batch) → answerTo b Open .code ≡ 0 → after b Open ≡ made (length (b .file)) (length (b .journal)) []
-unfolding after
-opened-is b z = rw (eq-eqb (answerTo b Open .code) 0 z) (opening (length (b .file)) (length (b .journal)))
-
-pub history : (b : Batch) → answerTo b Open .code ≡ 0 → (calls : List Call) → History (length (b .file)) (length (b .journal)) (after b Open) calls
-history b z calls =
-    let good = opened-lengths b z in
-    subst (λ (x : Batch). History (length (b .file)) (length (b .journal)) x calls) (sym (opened-is b z))
-    (let t = runs (length (b .file)) (length (b .journal)) good calls [] (none-stands (length (b .file)) (length (b .journal))) in
-    record {
-      leaves = t .is;
-      answers = λ call. ap (λ (x : Batch). answerTo x call) (t .is) ∙ answered-by-rules (length (b .file)) (length (b .journal)) good _ (t .stands) call;
-    })
-
 -- ---- what a list makes is what performing it makes, each call answering 0
 call-stands : (xs : List Action) (a : Action) → standingAfter xs (callOf a) ≡ xs ++ a ∷ []
 call-stands xs (Addition rec) = refl
 call-stands xs (Amendment rec) = refl
 call-stands xs (Cancellation id) = refl
-
-pub record Performed (n m : ℕ) (b : Batch) (xs made-by : List Action) : Type 0 where
-  pub leaves : run b (map callOf xs) ≡ made n m made-by
-  pub answers : answersOf b (map callOf xs) ≡ map (λ a. accepted) xs
 
 module _ (n m : ℕ) (good : rightLengths n m ≡ true) where
   perform : (before xs : List Action) → Stands n m before → InTurnBehind n m before xs → Performed n m (made n m before) xs (before ++ xs)
@@ -73,11 +48,53 @@ module _ (n m : ℕ) (good : rightLengths n m ≡ true) where
         answers = λ j. met j ∷ (ap (λ (b : Batch). answersOf b (map callOf xs)) (k .is) ∙ i .answers) j;
       }
 
-pub performed : (b : Batch) → answerTo b Open .code ≡ 0 → (xs : List Action) → InTurn (length (b .file)) (length (b .journal)) xs
-    → Performed (length (b .file)) (length (b .journal)) (after b Open) xs xs
-performed b z xs t =
-    subst (λ (x : Batch). Performed (length (b .file)) (length (b .journal)) x xs xs) (sym (opened-is b z))
-    (perform (length (b .file)) (length (b .journal)) (opened-lengths b z) [] xs (none-stands (length (b .file)) (length (b .journal))) t)
+  -- ---- the history of what an opening made
+  history-of : (calls : List Call) → History n m (made n m []) calls
+  history-of calls =
+      let t = runs n m good calls [] (none-stands n m) in
+      let turn = stands-exactly n m (standing calls (answersOf (made n m []) calls)) .1 (t .stands) in
+      let p = perform [] (standing calls (answersOf (made n m []) calls)) (none-stands n m) turn in
+      record {
+        leaves = t .is;
+        inTurn = turn;
+        again = p .leaves ∙ sym (t .is);
+        accepts = p .answers;
+        answers = λ call. ap (λ (x : Batch). answerTo x call) (t .is) ∙ answered-by-rules n m good _ (t .stands) call;
+      }
+
+-- ---- the lengths
+pub lengths-exactly : (n m : ℕ) → (rightLengths n m ≡ true) ↔ GoodLengths n m
+unfolding rightLengths
+lengths-exactly n m = (
+  λ t.
+      let p = and-eq-true-iff (eqb (n % 401) 0 && leb 401 n && leb n 400599 && leb 403 m) (leb m 1048576) .0 t in
+      let q = and-eq-true-iff (eqb (n % 401) 0 && leb 401 n && leb n 400599) (leb 403 m) .0 (p .0) in
+      let r = and-eq-true-iff (eqb (n % 401) 0 && leb 401 n) (leb n 400599) .0 (q .0) in
+      let s = and-eq-true-iff (eqb (n % 401) 0) (leb 401 n) .0 (r .0) in
+      record { multiple = eqb-true _ _ (s .0); least = leb-true _ _ (s .1); most = leb-true _ _ (r .1); journalLeast = leb-true _ _ (q .1); journalMost = leb-true _ _ (p .1) },
+  λ g. rw (eq-eqb (n % 401) 0 (g .multiple), le-leb 401 n (g .least), le-leb n 400599 (g .most), le-leb 403 m (g .journalLeast), le-leb m 1048576 (g .journalMost)),
+)
+
+-- ---- an opening, whatever the buffers and counts held
+module _ (b : Batch) (g : GoodLengths (length (b .file)) (length (b .journal))) where
+  good-lengths : rightLengths (length (b .file)) (length (b .journal)) ≡ true
+  good-lengths = lengths-exactly (length (b .file)) (length (b .journal)) .1 g
+
+  pub opens : answerTo b Open ≡ accepted
+  unfolding answerTo
+  opens = rw good-lengths
+
+  opened-is : after b Open ≡ made (length (b .file)) (length (b .journal)) []
+  unfolding after
+  opened-is = rw opens (opening (length (b .file)) (length (b .journal)))
+
+  pub history : (calls : List Call) → History (length (b .file)) (length (b .journal)) (after b Open) calls
+  history calls = subst (λ (x : Batch). History (length (b .file)) (length (b .journal)) x calls) (sym opened-is) (history-of (length (b .file)) (length (b .journal)) good-lengths calls)
+
+  pub performed : (xs : List Action) → InTurn (length (b .file)) (length (b .journal)) xs → Performed (length (b .file)) (length (b .journal)) (after b Open) xs xs
+  performed xs t =
+      subst (λ (x : Batch). Performed (length (b .file)) (length (b .journal)) x xs xs) (sym opened-is)
+      (perform (length (b .file)) (length (b .journal)) good-lengths [] xs (none-stands (length (b .file)) (length (b .journal))) t)
 
 -- ---- an undo after an accepted action gives back the batch before it
 without-latest : (xs : List Action) (a : Action) → withoutLatest (xs ++ a ∷ []) ≡ xs

@@ -19,3 +19,4 @@ pub mod Exactly
 pub mod Turning
 pub mod History
 pub mod SoundFile
+pub mod BatchCodes

@@ -1,7 +1,7 @@
 -- The history of a batch, in the paper's words: actions, the records that they make, the rules over those records, and what stands after a run of calls.
 -- No buffer, count or replay is in the rules: a batch is its list of standing actions.
 -- Assumes nothing.
-use Prim.Native.Nat.{ℕ, _+_, _-_, _*_, _/_, _<_}
+use Prim.Native.Nat.{ℕ, _+_, _-_, _*_, _/_, _%_, _≤_, _<_}
 use mathlib.Core.Bool.{Bool, true, false, cond, _&&_, _||_}
 use mathlib.Core.Path.{_≡_}
 use mathlib.Core.List.{List, [], _∷_, _++_, map}
@@ -177,10 +177,30 @@ standingFrom xs (call ∷ calls) (r ∷ answers) = standingFrom (cond (eqb (r .c
 abbrev pub standing : List Call → List Answer → List Action
 standing calls answers = standingFrom [] calls answers
 
--- ---- the history: after these calls the batch is what the standing list makes, to the byte, and any call is answered as the rules say
+-- ---- the lengths of the two buffers: a multiple of 401 from 401 to 400,599, and 403 to 1,048,576
+pub record GoodLengths (n m : ℕ) : Type 0 where
+  pub multiple : n % 401 ≡ 0
+  pub least : 401 ≤ n
+  pub most : n ≤ 400599
+  pub journalLeast : 403 ≤ m
+  pub journalMost : m ≤ 1048576
+
+-- ---- the history: b is fresh from an opening, and these calls were made
+-- What holds after any list of calls holds after each beginning of it, so `answers` speaks of every answer on the way.
 pub record History (n m : ℕ) (b : Batch) (calls : List Call) : Type 0 where
+  -- file, counts and journal are, to the byte, what the standing list makes
   pub leaves : run b calls ≡ made n m (standing calls (answersOf b calls))
+  -- its actions are acceptable in their turn, and performing them from the opening leaves the same, each answering 0
+  pub inTurn : InTurn n m (standing calls (answersOf b calls))
+  pub again : run b (map callOf (standing calls (answersOf b calls))) ≡ run b calls
+  pub accepts : answersOf b (map callOf (standing calls (answersOf b calls))) ≡ map (λ a. accepted) (standing calls (answersOf b calls))
+  -- whatever is called next is answered as the rules say
   pub answers : (call : Call) → answerTo (run b calls) call ≡ rules n m (standing calls (answersOf b calls)) call
+
+-- ---- a list of actions performed as calls, each answering 0
+pub record Performed (n m : ℕ) (b : Batch) (xs all : List Action) : Type 0 where
+  pub leaves : run b (map callOf xs) ≡ made n m all
+  pub answers : answersOf b (map callOf xs) ≡ map (λ a. accepted) xs
 
 -- ---- an undo after an accepted action: it is accepted, and gives back the batch before
 pub record Undoes (before b : Batch) : Type 0 where

@@ -31,7 +31,7 @@ lacks-there c (x ∷ before) r after l e = go (eqb (x .code) c) l (λ h. lacks-t
     go true h k = clash h refl
     go false h k = k h
 
-lacks-on : (c x : ℕ) (xs : List ℕ) → lacks c (x ∷ xs) ≡ true → (x ≡ c → ⊥) × (lacks c xs ≡ true)
+pub lacks-on : (c x : ℕ) (xs : List ℕ) → lacks c (x ∷ xs) ≡ true → (x ≡ c → ⊥) × (lacks c xs ≡ true)
 unfolding lacks
 lacks-on c x xs l = go (eqb x c) refl l
   where
