@@ -2,23 +2,23 @@
 -- Assumes nothing.
 use Prim.Native.Nat.{ℕ, zero, suc, _+_, _-_, _*_, _/_, _%_, _^_, _≤_, _<_}
 use mathlib.Core.Path.{_≡_, refl, sym, ap, _∙_}
-use mathlib.Core.Bool.{Bool, true, false, cond, not, _&&_, _||_, and-eq-true-iff, and-false}
-use mathlib.Core.List.{List, [], _∷_, _++_, append-assoc, append-nil}
+use mathlib.Core.Bool.{Bool, true, false, cond, not, _&&_, _||_, and-eq-true-iff}
+use mathlib.Core.List.{List, [], _∷_, _++_, append-assoc}
 use native.Mathlib.Nat.{sub-zero, zero-sub}
 use native.Mathlib.Omega.{arith}
 use borrow.Author.Tests.{eq-eqb, ne-eqb, lt-ltb, le-ltb, le-leb, lt-leb, eqb-true, leb-true}
 use borrow.Rule.Slice.PartMut.{putMid, mid-len}
 use lib.Dec.{eqb, leb, ltb}
-use lib.ListN.{length, getD, take, drop, set, replicate, length-take, length-drop, length-append, length-replicate, take-append-drop}
+use lib.ListN.{length, getD, take, drop, set, replicate, length-append}
 use lib.Seq.{getD-drop, take-at, drop-at, set-at, drop-drop, length-take-le}
 use Rattle.text.specs.Answers.{answer, accepted}
-use Rattle.text.specs.Bytes.{isDigit, every, allDigits, isBlank, run}
+use Rattle.text.specs.Bytes.{isDigit, allDigits, isBlank, run}
 use Rattle.text.specs.Lists.{part, overlay}
-use Rattle.text.specs.Numbers.{numberAfter, numberOf, numberOfFirst, digits, places, decimal}
+use Rattle.text.specs.Numbers.{numberAfter, numberOf, numberOfFirst, digits, places}
 use Rattle.text.proofs.Lists.{spelled, put-is}
 use Rattle.text.proofs.Runs.{run-passes}
 use Rattle.text.proofs.Decimals.{places-at-most}
-use Rattle.text.proofs.Numbers.{ten, ten-grows, few-digits, number-below, length-digits, digit-bounds}
+use Rattle.text.proofs.Numbers.{ten-grows, number-below, length-digits, digit-bounds}
 use Rattle.fields.specs.declared.Grams.{Grams}
 use Rattle.fields.specs.declared.Hellers.{Hellers}
 use Rattle.fields.specs.declared.Sum.the-variants.{Total, TooLarge}
@@ -26,7 +26,6 @@ use Rattle.fields.specs.declared.WeightReading.{WeightReading}
 use Rattle.fields.specs.declared.WeightReading.the-variants as Weight
 use Rattle.fields.specs.declared.MoneyReading.{MoneyReading}
 use Rattle.fields.specs.declared.MoneyReading.the-variants as Money
-use Rattle.fields.specs.Frame.{framed}
 use Rattle.fields.specs.Amounts.{isWeight, gramsIn, grams, readWeight, weightText, crownDigits, isMoney, hellersIn, hellers, readMoney, moneyText}
 use Rattle.fields.specs.Calls.{hasMoneyText, moneyBytes, hasWeightText, weightBytes, Written, MoneyWritten, WeightWritten, sumOf}
 use Rattle.fields.proofs.Frames.{frame-good, frame-bad}

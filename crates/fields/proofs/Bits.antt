@@ -1,9 +1,9 @@
 -- Bits of a number: one more bit that was not there.
 -- Assumes nothing.
-use Prim.Native.Nat.{ℕ, zero, suc, _+_, _-_, _*_, _/_, _%_, _^_, _≤_, _<_}
+use Prim.Native.Nat.{ℕ, zero, suc, _+_, _*_, _/_, _%_, _^_, _≤_, _<_}
 use mathlib.Core.Path.{_≡_, refl, sym, ap, _∙_}
-use mathlib.Core.Bool.{Bool, true, false, cond, _||_}
-use native.Mathlib.Nat.{pow-succ', div-div-eq-div-mul, div-one, mul-comm}
+use mathlib.Core.Bool.{Bool, true, false, _||_}
+use native.Mathlib.Nat.{pow-succ', div-div-eq-div-mul, div-one}
 use native.Mathlib.Omega.{arith}
 use borrow.Author.Tests.{eq-eqb, ne-eqb, eqb-true, eqb-false}
 use lib.Dec.{eqb}

@@ -1,17 +1,17 @@
 -- The tests of the simple readings, from what the callees gave; dates and times.
 -- Assumes nothing.
-use Prim.Native.Nat.{ℕ, _+_, _-_, _*_, _≤_, _<_}
+use Prim.Native.Nat.{ℕ, _+_, _-_, _*_, _≤_}
 use mathlib.Core.Path.{_≡_, refl, sym, _∙_}
 use mathlib.Core.Bool.{Bool, true, false, cond, not, _&&_, _||_, and-eq-true-iff}
-use mathlib.Core.List.{List, [], _∷_}
+use mathlib.Core.List.{List}
 use native.Mathlib.Omega.{arith}
 use borrow.Author.Tests.{eq-eqb, ne-eqb, leb-true}
 use lib.Dec.{eqb, leb, ltb}
-use lib.ListN.{length, getD, take, drop, length-take}
-use Rattle.text.specs.Bytes.{isDigit, isCapital, every, allDigits, isBlank}
+use lib.ListN.{length, getD, length-take}
+use Rattle.text.specs.Bytes.{isCapital, allDigits, isBlank}
 use Rattle.text.specs.Lists.{part}
 use Rattle.text.specs.Numbers.{numberOf, numberOfFirst}
-use Rattle.text.proofs.Numbers.{ten, few-digits, number-below}
+use Rattle.text.proofs.Numbers.{few-digits}
 use Rattle.ident.specs.declared.Parts.{Parts}
 use Rattle.ident.specs.declared.Reading.{Reading}
 use Rattle.ident.specs.declared.Reading.the-variants as Ident
@@ -21,7 +21,6 @@ use Rattle.fields.specs.declared.DateReading.the-variants as Date
 use Rattle.fields.specs.declared.TimeReading.the-variants as Time
 use Rattle.fields.specs.declared.NumberReading.the-variants as Number
 use Rattle.fields.specs.declared.MainReading.the-variants as Main
-use Rattle.fields.specs.Frame.{framed}
 use Rattle.fields.specs.Dates.{isLeap, daysIn, realDate, yearOf, monthOf, dayOf, readDate, hoursOf, minutesOf, secondsOf, hasTimeForm, isTime, readTime}
 use Rattle.fields.specs.Numbers.{readDigits, isTelephone, readTelephone, readCount}
 use Rattle.fields.specs.Others.{isCountry, readMain}

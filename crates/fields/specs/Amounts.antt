@@ -2,8 +2,8 @@
 -- Assumes nothing.
 use Prim.Native.Nat.{ℕ, _+_, _-_, _*_, _/_}
 use mathlib.Core.Bool.{Bool, cond, not, _&&_, _||_}
-use mathlib.Core.List.{List, [], _∷_, _++_}
-use lib.ListN.{getD, take, drop, replicate}
+use mathlib.Core.List.{List, _∷_, _++_}
+use lib.ListN.{getD, replicate}
 use lib.Dec.{eqb, leb, ltb}
 use Rattle.text.specs.Bytes.{isDigit, allDigits, isBlank, run}
 use Rattle.text.specs.Lists.{part}

@@ -3,7 +3,7 @@
 use Prim.Native.Nat.{ℕ}
 use mathlib.Core.Bool.{Bool, _&&_}
 use mathlib.Core.List.{List}
-use lib.ListN.{getD, drop}
+use lib.ListN.{getD}
 use lib.Dec.{eqb, ltb}
 use Rattle.text.specs.Bytes.{allDigits, isBlank}
 use Rattle.text.specs.Lists.{part}

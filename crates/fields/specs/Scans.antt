@@ -1,8 +1,8 @@
 -- The scan of field 18 in one pass, a byte at a time, as the code does it. `Services` says what it means.
 -- Assumes nothing.
 use Prim.Native.Nat.{ℕ, _-_}
-use mathlib.Core.Bool.{Bool, true, false, cond, not, _&&_}
-use mathlib.Core.List.{List, [], _∷_}
+use mathlib.Core.Bool.{Bool, true, cond, not, _&&_}
+use mathlib.Core.List.{List}
 use lib.Dec.{eqb}
 use Rattle.text.specs.Bytes.{isBlank}
 use Rattle.fields.specs.declared.Scan.{Scan}

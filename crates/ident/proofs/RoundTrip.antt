@@ -1,8 +1,8 @@
 -- Writing gives a right identifier with those parts; a right identifier is what its parts write; and code 1 comes exactly where none has them.
 -- Assumes nothing.
-use Prim.Native.Nat.{ℕ, zero, suc, _+_, _-_, _%_, _^_, _≤_, _<_}
-use mathlib.Core.Path.{_≡_, refl, sym, ap, ap₂, _∙_}
-use mathlib.Core.Bool.{Bool, true, false, cond, not, _&&_, _||_, and-eq-true-iff}
+use Prim.Native.Nat.{ℕ, suc, _+_, _-_, _%_, _^_, _≤_, _<_}
+use mathlib.Core.Path.{_≡_, refl, sym, ap, _∙_}
+use mathlib.Core.Bool.{Bool, true, false, cond, _&&_, _||_, and-eq-true-iff}
 use mathlib.Core.List.{List, [], _∷_, _++_, append-assoc}
 use mathlib.Core.Logic.{_↔_}
 use native.Mathlib.Nat.{mod-lt, add-comm}
@@ -11,16 +11,16 @@ use native.Mathlib.Omega.{arith}
 use borrow.Author.Tests.{lt-ltb, eqb-true, eq-eqb, ne-eqb}
 use borrow.Rule.Slice.PartMut.{mid-len}
 use lib.Dec.{leb→le, leb, ltb, eqb}
-use lib.ListN.{length, getD, take, drop}
+use lib.ListN.{length, getD}
 use lib.Seq.{take-add, drop-drop, take-at, drop-at}
 use Rattle.text.specs.Bytes.{isDigit, every, allDigits}
 use Rattle.text.specs.Lists.{part}
-use Rattle.text.specs.Numbers.{numberOf, digits}
+use Rattle.text.specs.Numbers.{digits}
 use Rattle.text.proofs.Lists.{spelled}
 use Rattle.text.proofs.Numbers.{ten-is, is-digit, every-append, length-digits, digits-all, number-digits, number-below, digits-number}
 use Rattle.text.proofs.Ranges.{below}
 use Rattle.ident.specs.declared.Parts.{Parts}
-use Rattle.ident.specs.Identifier.{rightPrefix, lastOf, consignorDigits, postingDigits, digitsBefore, consignorOf, postingOf, weightsFor, weighted, checkDigit, remainder, passes, passesAt, endsRight, rightId}
+use Rattle.ident.specs.Identifier.{lastOf, consignorDigits, postingDigits, consignorOf, postingOf, weightsFor, weighted, checkDigit, remainder, endsRight, rightId}
 use Rattle.ident.specs.Calls.{partsOf, bodyOf, checkByte, postfix, written, canWrite}
 use Rattle.ident.proofs.Shapes.{eight-or-nine}
 use Rattle.ident.proofs.Facts.{Right, right-facts}

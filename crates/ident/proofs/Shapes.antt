@@ -9,7 +9,7 @@ use borrow.Author.Tests.{eq-eqb, ne-eqb, leb-true, leb-false}
 use lib.Dec.{eqb, leb, eqb→eq}
 use Rattle.text.proofs.Ranges.{below, either}
 use Rattle.ident.specs.declared.Shape.{Shape}
-use Rattle.ident.specs.Identifier.{shapeOf, consignorDigits, postingDigits, digitsBefore}
+use Rattle.ident.specs.Identifier.{shapeOf, postingDigits, digitsBefore}
 
 abbrev shape : ℕ → ℕ → Shape
 shape c p = record { consignor = c; posting = p }

@@ -1,21 +1,21 @@
 -- What the check digit catches, and what not.
 -- Assumes nothing.
 use Prim.Native.Nat.{ℕ, zero, suc, _+_, _-_, _*_, _%_, _≤_, _<_}
-use mathlib.Core.Path.{_≡_, refl, sym, ap, _∙_}
+use mathlib.Core.Path.{_≡_, sym, ap, _∙_}
 use mathlib.Core.Bool.{Bool, true, false, cond, not, _&&_, _||_, and-eq-true-iff, and-false}
 use mathlib.Core.List.{List, [], _∷_}
-use mathlib.Core.Logic.{_↔_, _⊎_, inl, inr, ⊎-elim}
+use mathlib.Core.Logic.{_↔_, inl, inr, ⊎-elim}
 use native.Mathlib.Nat.{mul-add, add-comm}
 use native.Mathlib.Omega.{arith, ne-cases}
-use borrow.Author.Tests.{eqb-true, eq-eqb, ne-eqb, eqb-false, not-true}
-use lib.Dec.{T, eqb, leb, eqb→eq}
-use lib.ListN.{length, getD, take, drop, set, length-take, length-drop}
+use borrow.Author.Tests.{eqb-true, eq-eqb, ne-eqb}
+use lib.Dec.{T, eqb, eqb→eq}
+use lib.ListN.{length, getD, drop, set, length-take, length-drop}
 use lib.Seq.{getD-take, getD-drop, getD-set-same, getD-set-other, take-set-lt, take-set-le, drop-set-add}
 use Rattle.text.specs.Bytes.{isDigit, every, allDigits}
 use Rattle.text.specs.Lists.{part}
 use Rattle.text.proofs.Ranges.{allFrom, below, within, either, is-true}
 use Rattle.text.proofs.Numbers.{digit-bounds}
-use Rattle.ident.specs.Identifier.{rightPrefix, lastOf, postingDigits, digitsBefore, weights, weightsFor, weighted, checkDigit, sumAt, remainderAt, remainder, passesAt, Moves, passes, endsRight, rightId}
+use Rattle.ident.specs.Identifier.{lastOf, digitsBefore, weights, weightsFor, weighted, checkDigit, sumAt, remainderAt, remainder, passesAt, Moves, passes, rightId}
 use Rattle.ident.proofs.Shapes.{eight-or-nine}
 use Rattle.ident.proofs.Facts.{Right, right-facts}
 

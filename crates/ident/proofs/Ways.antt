@@ -1,22 +1,21 @@
 -- Each way out of the functions, from the facts that are known there.
 -- Assumes nothing.
-use Prim.Native.Nat.{ℕ, suc, _+_, _-_, _*_, _%_, _^_, _≤_, _<_}
-use mathlib.Core.Path.{_≡_, refl, sym, ap, _∙_}
-use mathlib.Core.Bool.{Bool, true, false, cond, not, _&&_, _||_, and-false, and-assoc, and-eq-true-iff}
-use mathlib.Core.List.{List, [], _∷_}
+use Prim.Native.Nat.{ℕ, _+_, _-_, _%_, _^_, _≤_}
+use mathlib.Core.Path.{_≡_, sym, ap, _∙_}
+use mathlib.Core.Bool.{Bool, true, false, not, _&&_, _||_, and-assoc, and-eq-true-iff}
+use mathlib.Core.List.{List}
 use native.Mathlib.Omega.{arith}
 use borrow.Author.Tests.{eq-eqb, ne-eqb, eqb-true, not-true, not-false}
 use lib.Dec.{eqb, ltb}
-use lib.ListN.{length, getD, take, drop, length-take, length-drop}
+use lib.ListN.{length, getD, drop, length-take}
 use Rattle.text.specs.Answers.{answer, accepted}
 use Rattle.text.specs.Bytes.{isCapital, allDigits}
-use Rattle.text.specs.Lists.{part, sameBytes}
+use Rattle.text.specs.Lists.{part}
 use Rattle.text.specs.Numbers.{numberOf, numberOfFirst}
-use Rattle.text.proofs.Lists.{step, ended}
 use Rattle.text.proofs.Numbers.{few-digits}
 use Rattle.ident.specs.declared.Shape.{Shape}
 use Rattle.ident.specs.declared.Parts.{Parts}
-use Rattle.ident.specs.Identifier.{rightPrefix, lastOf, shapeOf, consignorDigits, postingDigits, digitsBefore, consignorOf, postingOf, weights, weighted, checkDigit, sumAt, remainderAt, passesAt, passes, endsRight, rightId}
+use Rattle.ident.specs.Identifier.{rightPrefix, lastOf, consignorDigits, postingDigits, weights, weighted, checkDigit, passesAt, endsRight, rightId}
 use Rattle.ident.proofs.Shapes.{Looked}
 use Rattle.ident.specs.declared.Reading.the-variants.{Right, Refused}
 use Rattle.ident.specs.Calls.{notRight, Checked, partsOf, Read, written, canWrite, Written}

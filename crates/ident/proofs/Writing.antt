@@ -1,8 +1,8 @@
 -- The bytes that `fill` leaves are the identifier that the parts write.
 -- Assumes nothing.
-use Prim.Native.Nat.{ℕ, zero, suc, _+_, _-_, _*_, _%_, _^_, _≤_, _<_}
-use mathlib.Core.Path.{_≡_, refl, sym, ap, _∙_}
-use mathlib.Core.Bool.{Bool, true, false, cond, not, _&&_, _||_, and-eq-true-iff}
+use Prim.Native.Nat.{ℕ, _+_, _-_, _*_, _%_, _^_, _≤_, _<_}
+use mathlib.Core.Path.{_≡_, sym, ap, _∙_}
+use mathlib.Core.Bool.{Bool, true, false, cond, _&&_, _||_, and-eq-true-iff}
 use mathlib.Core.List.{List, [], _∷_, _++_}
 use lib.Pow.{pow-add}
 use native.Mathlib.Omega.{arith}
@@ -10,14 +10,14 @@ use borrow.Author.Tests.{ltb-true}
 use borrow.Rule.Slice.PartMut.{putMid, mid-len}
 use lib.Arith.{digits-lt}
 use lib.Dec.{eqb, ltb}
-use lib.ListN.{length, getD, take, drop, set, length-append}
+use lib.ListN.{length, take, drop, set, length-append}
 use Rattle.text.specs.Numbers.{digits}
 use Rattle.text.proofs.Lists.{spelled, put-is, put-there}
-use Rattle.text.proofs.Numbers.{ten, ten-is, ten-grows, length-digits, digits-beside}
+use Rattle.text.proofs.Numbers.{ten-is, ten-grows, length-digits, digits-beside}
 use Rattle.ident.specs.declared.Shape.{Shape}
 use Rattle.ident.specs.declared.Parts.{Parts}
-use Rattle.ident.specs.Identifier.{rightPrefix, shapeOf, consignorDigits, postingDigits, digitsBefore, weights, weightsFor, weighted, checkDigit}
-use Rattle.ident.specs.Calls.{bodyOf, checkByte, postfix, written, canWrite}
+use Rattle.ident.specs.Identifier.{rightPrefix, consignorDigits, postingDigits, digitsBefore, weights, weightsFor, weighted, checkDigit}
+use Rattle.ident.specs.Calls.{bodyOf, checkByte, written, canWrite}
 use Rattle.ident.proofs.Shapes.{Looked, eight-or-nine}
 
 -- ---- what parts that can be written have

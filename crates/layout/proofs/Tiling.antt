@@ -1,11 +1,11 @@
 -- The fields of a record lie within it, do not overlap and tile it, over any list of widths.
 -- Assumes nothing.
 use Prim.Native.Nat.{ℕ, zero, suc, _+_, _<_, _≤_}
-use mathlib.Core.Path.{_≡_, refl, _∙_}
-use mathlib.Core.List.{List, [], _∷_, _++_}
+use mathlib.Core.Path.{_≡_, refl}
+use mathlib.Core.List.{List, [], _∷_}
 use native.Mathlib.Nat.{zero-add}
 use native.Mathlib.Omega.{arith}
-use lib.ListN.{length, getD, take, drop, take-append-drop, length-drop, length-take}
+use lib.ListN.{length, getD, drop, take-append-drop, length-drop}
 use lib.Seq.{drop-drop, length-take-le}
 use Rattle.layout.specs.Widths.{sum, start, cut, cuts, joined, startsFrom}
 

@@ -1,16 +1,16 @@
 -- Each way out of the functions, from the facts that are known there.
 -- Assumes nothing.
-use Prim.Native.Nat.{ℕ, _+_, _-_, _≤_, _<_}
-use mathlib.Core.Path.{_≡_, refl, sym, _∙_}
-use mathlib.Core.Bool.{Bool, true, false, not, _&&_, cond, and-eq-true-iff}
+use Prim.Native.Nat.{ℕ, _+_, _-_, _≤_}
+use mathlib.Core.Path.{_≡_, sym, _∙_}
+use mathlib.Core.Bool.{Bool, true, false, _&&_, and-eq-true-iff}
 use mathlib.Core.List.{List, []}
 use native.Mathlib.Nat.{add-sub-cancel-left}
 use native.Mathlib.Omega.{arith}
-use borrow.Author.Tests.{eq-eqb, ne-eqb, not-true, not-false, leb-true, eqb-true}
+use borrow.Author.Tests.{eq-eqb, ne-eqb, leb-true, eqb-true}
 use lib.Dec.{eqb, leb}
 use lib.ListN.{length, getD, take, drop}
 use Rattle.text.specs.Answers.{answer, accepted}
-use Rattle.layout.specs.Widths.{start, cut}
+use Rattle.layout.specs.Widths.{cut}
 use Rattle.layout.specs.Layout.{widths, starts, isField, fieldOf, fieldAnswer, Field, FieldAnswered}
 use Rattle.layout.proofs.Tiling.{field-within, starts-nth}
 

@@ -8,7 +8,7 @@ use lib.ListN.{length}
 use lib.Dec.{leb, eqb}
 use Rattle.text.specs.declared.Answer.{Answer}
 use Rattle.text.specs.Answers.{answer, accepted}
-use Rattle.layout.specs.Widths.{sum, start, startsFrom, cut}
+use Rattle.layout.specs.Widths.{sum, startsFrom, cut}
 
 abbrev pub widths : List ℕ
 widths =

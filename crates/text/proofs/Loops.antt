@@ -1,15 +1,14 @@
 -- Each turn of the loops, and each way out of them, from the facts that are known there.
 -- Assumes nothing.
 use Prim.Native.Nat.{ℕ, zero, suc, _+_, _-_, _*_, _/_, _%_, _≤_, _<_}
-use mathlib.Core.Path.{_≡_, refl, sym, ap, _∙_}
-use mathlib.Core.Bool.{Bool, true, false, _&&_, not, and-false}
+use mathlib.Core.Path.{_≡_, refl, sym, ap}
+use mathlib.Core.Bool.{Bool, true, false, not, and-false}
 use lib.Dec.{eqb}
 use mathlib.Core.List.{List, [], _∷_, _++_, append-assoc, append-nil}
-use native.Mathlib.Nat.{add-comm}
 use native.Mathlib.Numerals.{add-one}
 use native.Mathlib.Omega.{arith}
-use borrow.Author.Tests.{eq-eqb, ne-eqb, lt-ltb, le-ltb, not-true, not-false}
-use lib.ListN.{length, getD, take, drop, set, replicate, length-take, length-set, length-replicate}
+use borrow.Author.Tests.{eq-eqb, ne-eqb, le-ltb, not-true, not-false}
+use lib.ListN.{length, getD, take, drop, set, replicate, length-take, length-set}
 use lib.Seq.{getD-take, drop-set-lt, getD-set-same, drop-length}
 use Rattle.text.specs.Bytes.{every, isBlank, run}
 use Rattle.text.specs.Lists.{sameBytes}

@@ -2,7 +2,6 @@
 -- Assumes nothing.
 use borrow.Author.Needs.{needs}
 use Rattle.fields.proofs.ServiceWays.{can-add, adds, adds-not}
-use borrow.Author.Needs.{needs}
 use Rattle.fields.proofs.add_code.Statement.{statement}
 use Rattle.fields.proofs.add_code.Tie as tie
 

@@ -2,7 +2,6 @@
 -- Assumes nothing.
 use borrow.Author.Needs.{needs}
 use Rattle.fields.proofs.ServiceWays.{byte-plus, byte-digit}
-use borrow.Author.Needs.{needs}
 use Rattle.fields.proofs.behind.Statement.{statement}
 use Rattle.fields.proofs.behind.Tie as tie
 

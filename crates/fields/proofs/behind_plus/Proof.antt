@@ -2,7 +2,6 @@
 -- Assumes nothing.
 use borrow.Author.Needs.{needs}
 use Rattle.fields.proofs.ServiceWays.{plus-joins, plus-absent, plus-fails}
-use borrow.Author.Needs.{needs}
 use Rattle.fields.proofs.behind_plus.Statement.{statement}
 use Rattle.fields.proofs.behind_plus.Tie as tie
 

@@ -2,7 +2,6 @@
 -- Assumes nothing.
 use borrow.Author.Needs.{needs}
 use Rattle.fields.proofs.Ways.{days-leap, days-february, days-thirty, days-other}
-use borrow.Author.Needs.{needs}
 use Rattle.fields.proofs.days_in.Statement.{statement}
 use Rattle.fields.proofs.days_in.Tie as tie
 

@@ -2,7 +2,6 @@
 -- Assumes nothing.
 use borrow.Author.Needs.{needs}
 use Rattle.fields.proofs.ServiceWays.{finish-adds, finish-not}
-use borrow.Author.Needs.{needs}
 use Rattle.fields.proofs.finished.Statement.{statement}
 use Rattle.fields.proofs.finished.Tie as tie
 

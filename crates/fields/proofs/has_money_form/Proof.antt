@@ -2,7 +2,6 @@
 -- Assumes nothing.
 use borrow.Author.Needs.{needs}
 use Rattle.fields.proofs.AmountWays.{money-none, money-many, money-form}
-use borrow.Author.Needs.{needs}
 use Rattle.fields.proofs.has_money_form.Statement.{statement}
 use Rattle.fields.proofs.has_money_form.Tie as tie
 

@@ -2,7 +2,6 @@
 -- Assumes nothing.
 use borrow.Author.Needs.{needs}
 use Rattle.fields.proofs.Ways.{time-form}
-use borrow.Author.Needs.{needs}
 use Rattle.fields.proofs.has_time_form.Statement.{statement}
 use Rattle.fields.proofs.has_time_form.Tie as tie
 

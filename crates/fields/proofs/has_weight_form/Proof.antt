@@ -2,7 +2,6 @@
 -- Assumes nothing.
 use borrow.Author.Needs.{needs}
 use Rattle.fields.proofs.AmountWays.{weight-form}
-use borrow.Author.Needs.{needs}
 use Rattle.fields.proofs.has_weight_form.Statement.{statement}
 use Rattle.fields.proofs.has_weight_form.Tie as tie
 

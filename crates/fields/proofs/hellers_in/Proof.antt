@@ -3,7 +3,6 @@
 use borrow.Author.Needs.{needs}
 use native.Mathlib.Omega.{arith}
 use Rattle.fields.proofs.AmountWays.{nine-digits, crowns-small, places-small, hellers-are}
-use borrow.Author.Needs.{needs}
 use Rattle.fields.proofs.hellers_in.Statement.{statement}
 use Rattle.fields.proofs.hellers_in.Tie as tie
 

@@ -3,7 +3,6 @@
 use borrow.Author.Needs.{needs}
 use native.Mathlib.Omega.{arith}
 use Rattle.fields.proofs.TextWays.{host-short, host-good, host-bad}
-use borrow.Author.Needs.{needs}
 use Rattle.fields.proofs.host_length.Statement.{statement}
 use Rattle.fields.proofs.host_length.Tie as tie
 

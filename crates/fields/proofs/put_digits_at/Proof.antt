@@ -2,7 +2,6 @@
 -- Assumes nothing.
 use borrow.Author.Needs.{needs}
 use Rattle.fields.proofs.AmountWays.{overlay-put}
-use borrow.Author.Needs.{needs}
 use Rattle.fields.proofs.put_digits_at.Statement.{statement}
 use Rattle.fields.proofs.put_digits_at.Tie as tie
 

@@ -5,7 +5,6 @@ use native.Mathlib.Omega.{arith}
 use mathlib.Core.Path.{_∙_}
 use lib.ListN.{length-set}
 use Rattle.fields.proofs.AmountWays.{crowns-nine, money-put}
-use borrow.Author.Needs.{needs}
 use Rattle.fields.proofs.put_money.Statement.{statement}
 use Rattle.fields.proofs.put_money.Tie as tie
 

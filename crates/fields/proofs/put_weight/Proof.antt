@@ -4,7 +4,6 @@ use borrow.Author.Needs.{needs}
 use native.Mathlib.Omega.{arith}
 use lib.ListN.{length-set}
 use Rattle.fields.proofs.AmountWays.{weight-put}
-use borrow.Author.Needs.{needs}
 use Rattle.fields.proofs.put_weight.Statement.{statement}
 use Rattle.fields.proofs.put_weight.Tie as tie
 

@@ -3,7 +3,6 @@
 use borrow.Author.Needs.{needs}
 use Rattle.fields.proofs.Frames.{frame-wide, frame-blank}
 use Rattle.fields.proofs.Ways.{count-value, count-bad}
-use borrow.Author.Needs.{needs}
 use Rattle.fields.proofs.read_count.Statement.{statement}
 use Rattle.fields.proofs.read_count.Tie as tie
 

@@ -3,7 +3,6 @@
 use borrow.Author.Needs.{needs}
 use Rattle.fields.proofs.Frames.{frame-wide, frame-blank, frame-good, frame-bad}
 use Rattle.fields.proofs.Ways.{country-is}
-use borrow.Author.Needs.{needs}
 use Rattle.fields.proofs.read_country.Statement.{statement}
 use Rattle.fields.proofs.read_country.Tie as tie
 

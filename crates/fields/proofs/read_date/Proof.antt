@@ -3,7 +3,6 @@
 use borrow.Author.Needs.{needs}
 use native.Mathlib.Omega.{arith}
 use Rattle.fields.proofs.Ways.{date-wide, date-small, date-value, date-bad}
-use borrow.Author.Needs.{needs}
 use Rattle.fields.proofs.read_date.Statement.{statement}
 use Rattle.fields.proofs.read_date.Tie as tie
 

@@ -3,7 +3,6 @@
 use borrow.Author.Needs.{needs}
 use Rattle.fields.proofs.Frames.{frame-blank}
 use Rattle.fields.proofs.Ways.{digits-value, digits-bad}
-use borrow.Author.Needs.{needs}
 use Rattle.fields.proofs.read_digits.Statement.{statement}
 use Rattle.fields.proofs.read_digits.Tie as tie
 

@@ -2,7 +2,6 @@
 -- Assumes nothing.
 use borrow.Author.Needs.{needs}
 use Rattle.fields.proofs.Frames.{frame-wide, frame-blank, frame-bad}
-use borrow.Author.Needs.{needs}
 use Rattle.fields.proofs.read_empty.Statement.{statement}
 use Rattle.fields.proofs.read_empty.Tie as tie
 

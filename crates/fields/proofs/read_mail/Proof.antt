@@ -3,7 +3,6 @@
 use borrow.Author.Needs.{needs}
 use Rattle.fields.proofs.Frames.{frame-wide, frame-blank}
 use Rattle.fields.proofs.TextWays.{mail-no-local, mail-full, mail-no-at, mail-no-host, mail-value}
-use borrow.Author.Needs.{needs}
 use Rattle.fields.proofs.read_mail.Statement.{statement}
 use Rattle.fields.proofs.read_mail.Tie as tie
 

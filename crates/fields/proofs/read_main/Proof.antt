@@ -3,7 +3,6 @@
 use borrow.Author.Needs.{needs}
 use Rattle.fields.proofs.Frames.{frame-wide, frame-blank}
 use Rattle.fields.proofs.Ways.{main-value, main-bad}
-use borrow.Author.Needs.{needs}
 use Rattle.fields.proofs.read_main.Statement.{statement}
 use Rattle.fields.proofs.read_main.Tie as tie
 

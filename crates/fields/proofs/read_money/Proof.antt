@@ -3,7 +3,6 @@
 use borrow.Author.Needs.{needs}
 use Rattle.fields.proofs.Frames.{frame-wide, frame-blank}
 use Rattle.fields.proofs.AmountWays.{money-reads, money-value, money-bad}
-use borrow.Author.Needs.{needs}
 use Rattle.fields.proofs.read_money.Statement.{statement}
 use Rattle.fields.proofs.read_money.Tie as tie
 

@@ -2,7 +2,6 @@
 -- Assumes nothing.
 use borrow.Author.Needs.{needs}
 use Rattle.fields.proofs.ServiceWays.{services-wide, services-blank, services-read}
-use borrow.Author.Needs.{needs}
 use Rattle.fields.proofs.read_services.Statement.{statement}
 use Rattle.fields.proofs.read_services.Tie as tie
 

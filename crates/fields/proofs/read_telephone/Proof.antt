@@ -3,7 +3,6 @@
 use borrow.Author.Needs.{needs}
 use Rattle.fields.proofs.Frames.{frame-wide, frame-blank}
 use Rattle.fields.proofs.Ways.{telephone-value, telephone-bad}
-use borrow.Author.Needs.{needs}
 use Rattle.fields.proofs.read_telephone.Statement.{statement}
 use Rattle.fields.proofs.read_telephone.Tie as tie
 

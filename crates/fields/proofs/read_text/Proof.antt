@@ -3,7 +3,6 @@
 use borrow.Author.Needs.{needs}
 use Rattle.fields.proofs.Frames.{frame-wide, frame-blank}
 use Rattle.fields.proofs.TextWays.{text-value, text-bad}
-use borrow.Author.Needs.{needs}
 use Rattle.fields.proofs.read_text.Statement.{statement}
 use Rattle.fields.proofs.read_text.Tie as tie
 

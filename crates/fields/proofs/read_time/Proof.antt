@@ -3,7 +3,6 @@
 use borrow.Author.Needs.{needs}
 use native.Mathlib.Omega.{arith}
 use Rattle.fields.proofs.Ways.{time-wide, time-small, time-value, time-bad}
-use borrow.Author.Needs.{needs}
 use Rattle.fields.proofs.read_time.Statement.{statement}
 use Rattle.fields.proofs.read_time.Tie as tie
 

@@ -5,7 +5,6 @@ use native.Mathlib.Omega.{arith}
 use mathlib.Core.Path.{sym, _∙_}
 use Rattle.fields.proofs.Frames.{frame-wide, frame-blank}
 use Rattle.fields.proofs.AmountWays.{weight-fits, weight-value, weight-bad}
-use borrow.Author.Needs.{needs}
 use Rattle.fields.proofs.read_weight.Statement.{statement}
 use Rattle.fields.proofs.read_weight.Tie as tie
 

@@ -2,7 +2,6 @@
 -- Assumes nothing.
 use borrow.Author.Needs.{needs}
 use Rattle.fields.proofs.Ways.{real-is}
-use borrow.Author.Needs.{needs}
 use Rattle.fields.proofs.real_date.Statement.{statement}
 use Rattle.fields.proofs.real_date.Tie as tie
 

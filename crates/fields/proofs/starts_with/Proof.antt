@@ -2,7 +2,6 @@
 -- Assumes nothing.
 use borrow.Author.Needs.{needs}
 use Rattle.fields.proofs.TextWays.{starts-empty}
-use borrow.Author.Needs.{needs}
 use Rattle.fields.proofs.starts_with.Statement.{statement}
 use Rattle.fields.proofs.starts_with.Tie as tie
 

@@ -2,7 +2,6 @@
 -- Assumes nothing.
 use borrow.Author.Needs.{needs}
 use Rattle.fields.proofs.AmountWays.{tens-space, tens-digit}
-use borrow.Author.Needs.{needs}
 use Rattle.fields.proofs.tens_byte.Statement.{statement}
 use Rattle.fields.proofs.tens_byte.Tie as tie
 

@@ -4,7 +4,6 @@ use borrow.Author.Needs.{needs}
 use native.Mathlib.Omega.{arith}
 use Rattle.fields.proofs.ServiceWays.{code-range, low-fits, high-fits, shifted, with-low, with-high}
 use Prim.Native.Nat.{_-_}
-use borrow.Author.Needs.{needs}
 use Rattle.fields.proofs.with_code.Statement.{statement}
 use Rattle.fields.proofs.with_code.Tie as tie
 

@@ -2,7 +2,6 @@
 -- Assumes nothing.
 use borrow.Author.Needs.{needs}
 use Rattle.fields.proofs.ServiceWays.{digit-third, digit-zero, digit-next}
-use borrow.Author.Needs.{needs}
 use Rattle.fields.proofs.with_digit.Statement.{statement}
 use Rattle.fields.proofs.with_digit.Tie as tie
 

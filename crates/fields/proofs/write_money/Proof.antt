@@ -2,7 +2,6 @@
 -- Assumes nothing.
 use borrow.Author.Needs.{needs}
 use Rattle.fields.proofs.AmountWays.{write-size, money-blank, money-over, money-text, money-malformed}
-use borrow.Author.Needs.{needs}
 use Rattle.fields.proofs.write_money.Statement.{statement}
 use Rattle.fields.proofs.write_money.Tie as tie
 

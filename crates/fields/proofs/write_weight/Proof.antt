@@ -2,7 +2,6 @@
 -- Assumes nothing.
 use borrow.Author.Needs.{needs}
 use Rattle.fields.proofs.AmountWays.{write-size, weight-blank, weight-over, weight-text, weight-malformed}
-use borrow.Author.Needs.{needs}
 use Rattle.fields.proofs.write_weight.Statement.{statement}
 use Rattle.fields.proofs.write_weight.Tie as tie
 

@@ -2,7 +2,6 @@
 -- Assumes nothing.
 use borrow.Author.Needs.{needs}
 use Rattle.ident.proofs.Ways.{can-is}
-use borrow.Author.Needs.{needs}
 use Rattle.ident.proofs.can_write.Statement.{statement}
 use Rattle.ident.proofs.can_write.Tie as tie
 

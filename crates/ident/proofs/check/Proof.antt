@@ -2,7 +2,6 @@
 -- Assumes nothing.
 use borrow.Author.Needs.{needs}
 use Rattle.ident.proofs.Ways.{check-right, check-wrong}
-use borrow.Author.Needs.{needs}
 use Rattle.ident.proofs.check.Statement.{statement}
 use Rattle.ident.proofs.check.Tie as tie
 

@@ -5,7 +5,6 @@ use native.Mathlib.Omega.{arith}
 use mathlib.Core.Path.{refl}
 use lib.Dec.{lit<}
 use borrow.Author.Tests.{ne-eqb}
-use borrow.Author.Needs.{needs}
 use Rattle.ident.proofs.check_digit.Statement.{statement}
 use Rattle.ident.proofs.check_digit.Tie as tie
 

@@ -2,7 +2,6 @@
 -- Assumes nothing.
 use borrow.Author.Needs.{needs}
 use Rattle.ident.proofs.Ways.{fits-is}
-use borrow.Author.Needs.{needs}
 use Rattle.ident.proofs.check_digit_fits.Statement.{statement}
 use Rattle.ident.proofs.check_digit_fits.Tie as tie
 

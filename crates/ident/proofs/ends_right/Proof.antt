@@ -2,7 +2,6 @@
 -- Assumes nothing.
 use borrow.Author.Needs.{needs}
 use Rattle.ident.proofs.Ways.{ends-CZ, ends-numbered}
-use borrow.Author.Needs.{needs}
 use Rattle.ident.proofs.ends_right.Statement.{statement}
 use Rattle.ident.proofs.ends_right.Tie as tie
 

@@ -4,7 +4,6 @@ use borrow.Author.Needs.{needs}
 use native.Mathlib.Omega.{arith}
 use lib.ListN.{length-set}
 use Rattle.ident.proofs.Writing.{number-small, fill-is}
-use borrow.Author.Needs.{needs}
 use Rattle.ident.proofs.fill.Statement.{statement}
 use Rattle.ident.proofs.fill.Tie as tie
 

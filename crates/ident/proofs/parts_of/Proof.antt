@@ -2,7 +2,6 @@
 -- Assumes nothing.
 use borrow.Author.Needs.{needs}
 use Rattle.ident.proofs.Ways.{parts-are}
-use borrow.Author.Needs.{needs}
 use Rattle.ident.proofs.parts_of.Statement.{statement}
 use Rattle.ident.proofs.parts_of.Tie as tie
 

@@ -2,7 +2,6 @@
 -- Assumes nothing.
 use borrow.Author.Needs.{needs}
 use Rattle.ident.proofs.Sums.{power-at}
-use borrow.Author.Needs.{needs}
 use Rattle.ident.proofs.power.Statement.{statement}
 use Rattle.ident.proofs.power.Tie as tie
 

@@ -2,7 +2,6 @@
 -- Assumes nothing.
 use borrow.Author.Needs.{needs}
 use Rattle.ident.proofs.Ways.{read-long, read-right, read-wrong}
-use borrow.Author.Needs.{needs}
 use Rattle.ident.proofs.read.Statement.{statement}
 use Rattle.ident.proofs.read.Tie as tie
 

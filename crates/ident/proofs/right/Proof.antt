@@ -2,7 +2,6 @@
 -- Assumes nothing.
 use borrow.Author.Needs.{needs}
 use Rattle.ident.proofs.Ways.{not-long, not-prefix, not-known, not-digits, not-passing, so-ends}
-use borrow.Author.Needs.{needs}
 use Rattle.ident.proofs.right.Statement.{statement}
 use Rattle.ident.proofs.right.Tie as tie
 

@@ -2,7 +2,6 @@
 -- Assumes nothing.
 use borrow.Author.Needs.{needs}
 use Rattle.ident.proofs.Ways.{prefix-is}
-use borrow.Author.Needs.{needs}
 use Rattle.ident.proofs.right_prefix.Statement.{statement}
 use Rattle.ident.proofs.right_prefix.Tie as tie
 

@@ -3,7 +3,6 @@
 use borrow.Author.Needs.{needs}
 use mathlib.Core.Path.{refl}
 use Rattle.ident.proofs.Sums.{weight-small}
-use borrow.Author.Needs.{needs}
 use Rattle.ident.proofs.weight.Statement.{statement}
 use Rattle.ident.proofs.weight.Tie as tie
 

@@ -3,7 +3,6 @@
 use borrow.Author.Needs.{needs}
 use native.Mathlib.Omega.{arith}
 use Rattle.layout.proofs.Ways.{ends-within, cut-is}
-use borrow.Author.Needs.{needs}
 use Rattle.layout.proofs.cut_out.Statement.{statement}
 use Rattle.layout.proofs.cut_out.Tie as tie
 

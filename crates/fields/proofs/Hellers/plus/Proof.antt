@@ -3,7 +3,6 @@
 use borrow.Author.Needs.{needs}
 use native.Mathlib.Omega.{arith}
 use Rattle.fields.proofs.AmountWays.{sum-fits, sum-large}
-use borrow.Author.Needs.{needs}
 use Rattle.fields.proofs.Hellers.plus.Statement.{statement}
 use Rattle.fields.proofs.Hellers.plus.Tie as tie
 

@@ -3,7 +3,6 @@
 use borrow.Author.Needs.{needs}
 use native.Mathlib.Omega.{arith}
 use Rattle.fields.proofs.ServiceWays.{has-low, has-high, has-not}
-use borrow.Author.Needs.{needs}
 use Rattle.fields.proofs.Services.has.Statement.{statement}
 use Rattle.fields.proofs.Services.has.Tie as tie
 
