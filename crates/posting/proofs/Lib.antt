@@ -6,4 +6,5 @@ pub mod Lines
 pub mod FirstBreak
 pub mod RecordList
 pub mod Codes
+pub mod Marks
 pub mod GoodFile

@@ -1,13 +1,16 @@
 // A whole K file: the first break of a rule, or the totals; and the line that reports it.
 ghost use mathlib.Core.Path.{_≡_};
-ghost use Prim.Native.Nat.{_+_, _*_, _≤_, _<_};
+ghost use mathlib.Core.Bool.{false};
+ghost use Prim.Native.Nat.{_+_, _*_, _^_, _≤_, _<_};
 ghost use mathlib.Core.List.{_∷_, _++_, []};
 ghost use lib.ListN.{length, drop};
 ghost use Rattle.text.specs.Promises.{Gives};
 ghost use Rattle.text.specs.Lists.{overlay};
 ghost use Rattle.text.specs.Numbers.{places, decimal};
+ghost use Rattle.fields.specs.Services.{bit};
 ghost use Rattle.posting.specs.File.{repeats, lineAnswer, noTotals, amountIn, withRecord, refused, fileAnswer};
 ghost use Rattle.posting.specs.Bounds.{Small, counted};
+ghost use Rattle.posting.specs.Marks.{markOf, Marked};
 ghost use Rattle.posting.specs.Report.{numbersOf, behind, line, Report, inputAnswer};
 use fields::Hellers;
 use fields::MoneyReading;
@@ -78,10 +81,55 @@ fn earlier(file: &[u8], i: usize) -> bool
     false
 }
 
+fn wide(b: u8) -> usize
+    ensures { λ r. ⌜ (r ≡ b) × (r < 256) ⌝ }
+{
+    b as usize
+}
+
+// The number of an identifier's mark. Equal identifiers have equal marks.
+fn mark_of(id: &[u8]) -> usize
+    requires { ⌜ length (now id) ≡ 13 ⌝ }
+    ensures { λ r. ⌜ (r ≡ markOf (now (id .entry))) × (r < 2048) ⌝ }
+{
+    let digits = wide(id[8]) * 100 + wide(id[9]) * 10 + wide(id[10]);
+    (digits + wide(id[12]) * 51) % 2048
+}
+
+fn has_bit(word: u64, k: usize) -> bool
+    requires { ⌜ k < 64 ⌝ }
+    ensures { λ r. ⌜ r ≡ bit k word ⌝ }
+{
+    (word >> k) % 2 == 1
+}
+
+fn with_bit(word: u64, k: usize) -> u64
+    requires { ⌜ (k < 64) × (bit k word ≡ false) ⌝ }
+    ensures { λ r. ⌜ r ≡ word + 2 ^ k ⌝ }
+{
+    word + (1 << k)
+}
+
+// The same for a caller that marks identifiers: the records before are looked through only if the mark is set, and else it is set now.
+fn repeated(file: &[u8], i: usize, marks: &mut [u64; 32]) -> bool
+    requires { ⌜ (i < 1000) × (i * 401 + 401 ≤ length (now file)) × Marked (now file) i (now marks) ⌝ }
+    ensures { λ r. ⌜ (r ≡ repeats (now (file .entry)) i i) × Marked (now (file .entry)) (i + 1) (now (marks .exit)) ⌝ }
+{
+    let at = i * 401;
+    let m = mark_of(&file[at..at + 13]);
+    let w = m / 64;
+    let k = m % 64;
+    if has_bit(marks[w], k) {
+        return earlier(file, i);
+    }
+    marks[w] = with_bit(marks[w], k);
+    false
+}
+
 // What record i breaks, its line end first.
-fn line_answer(file: &[u8], i: usize) -> Answer
-    requires { ⌜ (i < 1000) × (i * 401 + 401 ≤ length (now file)) ⌝ }
-    ensures { λ r. ⌜ r ≡ lineAnswer (now (file .entry)) i ⌝ }
+fn line_answer(file: &[u8], i: usize, marks: &mut [u64; 32]) -> Answer
+    requires { ⌜ (i < 1000) × (i * 401 + 401 ≤ length (now file)) × Marked (now file) i (now marks) ⌝ }
+    ensures { λ r. ⌜ (r ≡ lineAnswer (now (file .entry)) i) × (r .code ≡ 0 → Marked (now (file .entry)) (i + 1) (now (marks .exit))) ⌝ }
 {
     let at = i * 401;
     let e = at + 399;
@@ -96,7 +144,7 @@ fn line_answer(file: &[u8], i: usize) -> Answer
     if answer.code != 0 {
         return answer;
     }
-    if earlier(file, i) {
+    if repeated(file, i, marks) {
         return Answer { code: 2, place: 1 };
     }
     Answer { code: 0, place: 0 }
@@ -175,10 +223,11 @@ pub fn check(file: &[u8]) -> FileAnswer
     if n > 999 {
         return refused(213, 0, 0);
     }
+    let mut marks = [0u64; 32];
     let mut totals = no_totals();
     let mut i = 0;
     while i < n {
-        let a = line_answer(file, i);
+        let a = line_answer(file, i, &mut marks);
         if a.code != 0 {
             return refused(a.code, i as u32 + 1, a.place);
         }

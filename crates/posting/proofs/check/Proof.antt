@@ -6,16 +6,18 @@ use mathlib.Core.Path.{_≡_, refl}
 use Prim.Native.Nat.{_-_, _/_, _≤_}
 use lib.ListN.{length}
 use Rattle.posting.specs.File.{totalsOver}
+use Rattle.posting.specs.Marks.{Marked}
 use Rattle.posting.proofs.Amounts.{totals-small}
+use Rattle.posting.proofs.Marks.{none-marked}
 use Rattle.posting.proofs.Ways.{Unbroken, unbroken-start, file-odd, file-long, file-breaks, file-on, file-passes, totals-start, totals-on}
 use Rattle.posting.proofs.check.Statement.{statement}
 use Rattle.posting.proofs.check.Tie as tie
 
 abbrev Inv-loop : tie.InvT-loop
-Inv-loop file n totals₀ i₀ totals i = (i ≤ length file / 401) × (totals ≡ totalsOver file i) × (Unbroken file i)
+Inv-loop file n marks₀ totals₀ i₀ marks totals i = (i ≤ length file / 401) × (totals ≡ totalsOver file i) × (Unbroken file i) × (Marked file i marks)
 
 abbrev μ-loop : tie.MeasureT-loop
-μ-loop file n totals₀ i₀ totals i = length file / 401 - i
+μ-loop file n marks₀ totals₀ i₀ marks totals i = length file / 401 - i
 
 refused-requires : tie.Need-refused-requires Inv-loop μ-loop
 refused-requires c κs = search needs
@@ -33,7 +35,7 @@ no-totals-requires : tie.Need-no-totals-requires Inv-loop μ-loop
 no-totals-requires c κs = search needs
 
 loop-holds : tie.Need-loop-holds Inv-loop μ-loop
-loop-holds c = (omega arith, search totals-start, search unbroken-start)
+loop-holds c = (omega arith, search totals-start, search unbroken-start, none-marked _ _ refl)
 
 line-answer-requires : tie.Need-line-answer-requires Inv-loop μ-loop
 line-answer-requires c κs = search needs
@@ -75,7 +77,14 @@ loop-less : tie.Need-loop-less Inv-loop μ-loop
 loop-less c = search needs
 
 loop-again : tie.Need-loop-again Inv-loop μ-loop
-loop-again c = (omega arith, search totals-on, search file-on)
+loop-again c =
+    let answered = c .before .before .before .before .line-answer in
+    let zero = c .before .before .if3 .left in (
+      omega arith,
+      search totals-on,
+      file-on _ (c .before .before .before .before .before .before .before .before .before .before .if1 .left) (c .before .before .before .before .before .before .before .before .before .if2 .left) _ (c .before .before .before .before .before .before .loop-test .taken) (c .before .before .before .before .before .before .before .loop .inv .2) (answered .result) (answered .ensures .0) zero,
+      answered .ensures .1 zero,
+    )
 
 returns-4 : tie.Need-returns-4 Inv-loop μ-loop
 returns-4 c = search file-passes

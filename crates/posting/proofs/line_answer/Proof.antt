@@ -1,6 +1,7 @@
 -- `posting::line_answer` meets its contract.
 -- Assumes nothing.
 use borrow.Author.Needs.{needs}
+use native.Mathlib.Omega.{arith}
 use Rattle.posting.proofs.Ways.{line-open, line-breaks, line-repeats, line-passes}
 use borrow.Author.Needs.{needs}
 use Rattle.posting.proofs.line_answer.Statement.{statement}
@@ -22,7 +23,7 @@ shared-slice-read-ended-2 : tie.Need-shared-slice-read-ended-2
 shared-slice-read-ended-2 c = search needs
 
 returns : tie.Need-returns
-returns c = search line-open
+returns c = (search line-open, λ z. absurd (omega arith))
 
 sub-check : tie.Need-sub-check
 sub-check c = search needs
@@ -37,16 +38,16 @@ check-requires : tie.Need-check-requires
 check-requires c κs = search needs
 
 returns-2 : tie.Need-returns-2
-returns-2 c = search line-breaks
+returns-2 c = (search line-breaks, λ z. absurd (c .if2 .taken z))
 
-earlier-requires : tie.Need-earlier-requires
-earlier-requires c κs = search needs
+repeated-requires : tie.Need-repeated-requires
+repeated-requires c κs = search needs
 
 returns-3 : tie.Need-returns-3
-returns-3 c = search line-repeats
+returns-3 c = (search line-repeats, λ z. c .before .repeated .ensures .1)
 
 returns-4 : tie.Need-returns-4
-returns-4 c = search line-passes
+returns-4 c = (search line-passes, λ z. c .before .repeated .ensures .1)
 
 pub line-answer-spec : {M : Type 1} → statement M
 line-answer-spec =
@@ -63,6 +64,6 @@ line-answer-spec =
     part-check-end
     check-requires
     returns-2
-    earlier-requires
+    repeated-requires
     returns-3
     returns-4)
