@@ -13,12 +13,12 @@ use Rattle.text.proofs.Lists.{step, ended}
 use Rattle.text.proofs.Ranges.{below}
 use Rattle.ident.specs.Identifier.{weights, weighted}
 
-pub weight-small : (k : ℕ) → k < 9 → getD weights k 0 < 10
+weight-small : (k : ℕ) → k < 9 → getD weights k 0 < 10
 weight-small k h = ltb→lt (getD weights k 0) 10 (below (λ j. ltb (getD weights j 0) 10) 9 k tt h)
 
 -- a weight times the value of any byte
-pub product-small : {w v : ℕ} → w < 10 → v < 208 → w * v < 2560
-product-small {w} {v} p q = omega (arith, mul-le-mul {n₂ = 9} {m₂ = 207} (le-pred-of-lt p) (le-pred-of-lt q))
+pub product-small : {i n v : ℕ} (skip : ℕ) → i < n → n + skip ≤ 9 → v < 208 → getD weights (i + skip) 0 * v < 2560
+product-small {i} skip h k q = omega (arith, mul-le-mul {n₂ = 9} {m₂ = 207} (le-pred-of-lt (weight-small (i + skip) (omega arith))) (le-pred-of-lt q))
 
 weighted-nil : (ws : List ℕ) → weighted ws [] ≡ 0
 unfolding weighted
@@ -32,9 +32,9 @@ weighted-step s i skip h k = rw (step s i h, add-one, suc-add, drop-cons weights
 
 -- the sum so far, and what is left to add
 module _ (s : List ℕ) (i skip sum r : ℕ) (known : sum + weighted (drop (i + skip) weights) (drop i s) ≡ r) where
-  pub sum-on : (w v : ℕ) → i < length s → length s + skip ≤ 9 → w ≡ getD weights (i + skip) 0 → v ≡ getD s i 0 - 48
-      → sum + w * v + weighted (drop (i + 1 + skip) weights) (drop (i + 1) s) ≡ r
-  sum-on w v h k ew ev = rw (ew, ev) (omega (arith, weighted-step s i skip h (omega arith)))
+  pub sum-on : (v : ℕ) → i < length s → length s + skip ≤ 9 → v ≡ getD s i 0 - 48
+      → sum + getD weights (i + skip) 0 * v + weighted (drop (i + 1 + skip) weights) (drop (i + 1) s) ≡ r
+  sum-on v h k ev = rw ev (omega (arith, weighted-step s i skip h (omega arith)))
 
   pub sum-ends : length s ≤ i → sum ≡ r
   sum-ends h = omega (arith, rw (ended s i h) at known, weighted-nil (drop (i + skip) weights))

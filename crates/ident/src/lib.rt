@@ -2,7 +2,7 @@
 ghost use mathlib.Core.Path.{_≡_};
 ghost use mathlib.Core.Bool.{true};
 ghost use Prim.Native.Nat.{_+_, _^_, _≤_, _<_};
-ghost use lib.ListN.{length, getD, drop};
+ghost use lib.ListN.{length, drop};
 ghost use Rattle.ident.specs.Identifier.{shapeOf, rightPrefix, weights, weighted, checkDigit, passesAt, endsRight, rightId};
 ghost use Rattle.ident.specs.Calls.{partsOf, canWrite, written, Checked, Read, Written, Compared};
 use text::Answer;
@@ -88,22 +88,16 @@ fn right_prefix(a: u8, b: u8) -> bool
     text::is_capital(a) & (text::is_capital(b) | (b == b' '))
 }
 
-fn weight(k: usize) -> u64
-    requires { ⌜ k < 9 ⌝ }
-    ensures { λ r. ⌜ (r ≡ getD weights k 0) × (r < 10) ⌝ }
-{
-    WEIGHTS[k]
-}
-
 // The weighted sum of digits, under the weights from place `skip` on.
 fn weighted_sum(digits: &[u8], skip: usize) -> u64
     requires { ⌜ length (now digits) + skip ≤ 9 ⌝ }
     ensures { λ r. ⌜ r ≡ weighted (drop skip weights) (now (digits .entry)) ⌝ }
 {
+    let table = WEIGHTS;
     let mut sum: u64 = 0;
     let mut i = 0;
     while i < digits.len() {
-        sum += weight(i + skip) * text::digit_value(digits[i]);
+        sum += table[i + skip] * text::digit_value(digits[i]);
         i += 1;
     }
     sum

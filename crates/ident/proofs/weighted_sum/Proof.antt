@@ -12,19 +12,22 @@ use Rattle.ident.proofs.weighted_sum.Statement.{statement}
 use Rattle.ident.proofs.weighted_sum.Tie as tie
 
 abbrev Inv-loop : tie.InvT-loop
-Inv-loop digits skip sum₀ i₀ sum i = (i ≤ length digits) × (sum ≤ 2560 * i) × (sum + weighted (drop (i + skip) weights) (drop i digits) ≡ weighted (drop skip weights) digits)
+Inv-loop digits skip table sum₀ i₀ sum i = (i ≤ length digits) × (sum ≤ 2560 * i) × (sum + weighted (drop (i + skip) weights) (drop i digits) ≡ weighted (drop skip weights) digits)
 
 abbrev μ-loop : tie.MeasureT-loop
-μ-loop digits skip sum₀ i₀ sum i = length digits - i
+μ-loop digits skip table sum₀ i₀ sum i = length digits - i
 
 loop-holds : tie.Need-loop-holds Inv-loop μ-loop
 loop-holds c = (omega arith, omega arith, simp zero-add)
 
-add-weight : tie.Need-add-weight Inv-loop μ-loop
-add-weight c = search needs
+add-sum : tie.Need-add-sum Inv-loop μ-loop
+add-sum c = search needs
 
-weight-requires : tie.Need-weight-requires Inv-loop μ-loop
-weight-requires c κs = search needs
+mul-sum : tie.Need-mul-sum Inv-loop μ-loop
+mul-sum c = search needs
+
+array-read-sum : tie.Need-array-read-sum Inv-loop μ-loop
+array-read-sum c = search needs
 
 shared-slice-read-digit-value : tie.Need-shared-slice-read-digit-value Inv-loop μ-loop
 shared-slice-read-digit-value c = search needs
@@ -32,11 +35,11 @@ shared-slice-read-digit-value c = search needs
 digit-value-requires : tie.Need-digit-value-requires Inv-loop μ-loop
 digit-value-requires c κs = search needs
 
-mul-sum : tie.Need-mul-sum Inv-loop μ-loop
-mul-sum c = omega (arith, product-small (c .before .before .weight .ensures .1) (c .digit-value .ensures .1))
+mul-sum-2 : tie.Need-mul-sum-2 Inv-loop μ-loop
+mul-sum-2 c = omega (arith, product-small (c .before .before .before .before .before .args .skip) (c .before .before .loop-test .taken) (c .before .before .before .before .before .pre) (c .digit-value .ensures .1))
 
-add-sum : tie.Need-add-sum Inv-loop μ-loop
-add-sum c = omega (arith, product-small (c .before .before .weight .ensures .1) (c .digit-value .ensures .1))
+add-sum-2 : tie.Need-add-sum-2 Inv-loop μ-loop
+add-sum-2 c = omega (arith, product-small (c .before .before .before .before .before .args .skip) (c .before .before .loop-test .taken) (c .before .before .before .before .before .pre) (c .digit-value .ensures .1))
 
 add-i : tie.Need-add-i Inv-loop μ-loop
 add-i c = search needs
@@ -47,7 +50,7 @@ loop-less c = search needs
 loop-again : tie.Need-loop-again Inv-loop μ-loop
 loop-again c = (
   omega arith,
-  omega (arith, product-small (c .before .before .weight .ensures .1) (c .digit-value .ensures .1)),
+  omega (arith, product-small (c .before .before .before .before .before .args .skip) (c .before .before .loop-test .taken) (c .before .before .before .before .before .pre) (c .digit-value .ensures .1)),
   search sum-on,
 )
 
@@ -61,12 +64,13 @@ weighted-sum-spec =
     Inv-loop
     μ-loop
     loop-holds
-    add-weight
-    weight-requires
+    add-sum
+    mul-sum
+    array-read-sum
     shared-slice-read-digit-value
     digit-value-requires
-    mul-sum
-    add-sum
+    mul-sum-2
+    add-sum-2
     add-i
     loop-less
     loop-again
