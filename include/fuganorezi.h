@@ -1,9 +1,10 @@
 /*
- * Fuganorezi for C: checks of postal consignments, in the archive libfuganorezi.a (x86-64).
+ * Fuganorezi for C: checks of postal consignments, and an open batch of them, in the archive
+ * libfuganorezi.a (x86-64).
  *
- * Bytes are lent for the call: nothing is kept, changed or freed, and no byte at or past
- * `length` is read. `bytes` may be NULL only where `length` is 0. No call fails, waits or
- * uses memory of its own beyond the stack.
+ * Bytes are lent for the call: nothing is kept or freed, nothing is changed but what is said
+ * to be, and no byte at or past its length is touched. Bytes may be NULL only where their
+ * length is 0. No call fails, waits or uses memory of its own beyond the stack.
  */
 #ifndef FUGANOREZI_H
 #define FUGANOREZI_H
@@ -70,6 +71,81 @@ uint32_t fuganorezi_identifier_check(const uint8_t *bytes, size_t length);
  *   2 (1)  an earlier record, cancelled or not, has the same identifier.
  */
 uint32_t fuganorezi_file_check(const uint8_t *bytes, size_t length, uint64_t out[7]);
+
+/*
+ * The open batch: consignments are added, amended and cancelled, and each of these actions can
+ * be undone, the latest first.
+ *
+ * The caller lends two buffers to each call and keeps them, unchanged, from one call to the next:
+ *
+ * file:    the records with their line ends, one behind the other, then zeros. Its length is a
+ *          multiple of 401 from 401 to 400,599 (1 to 999 records). The first 401 * held bytes are
+ *          a K file that fuganorezi_file_check accepts.
+ * journal: an entry for each action that stands, then zeros. Its length is from 403 to 1,048,576.
+ *          An entry is its whole length and its kind, two bytes each, little-endian, and what it
+ *          carries: an addition (403, kind 1) and an amendment (403, kind 3) the 399 bytes of the
+ *          record, a cancellation (17, kind 2) the 13 of the identifier.
+ *
+ * The counts go in to each call and the next ones come out. They too are kept as they are.
+ */
+typedef struct fuganorezi_counts {
+    uint64_t live;      /* live consignments */
+    uint64_t cancelled; /* cancelled ones */
+    uint64_t cash;      /* cash on delivery of the live ones together (field 16), in haléře */
+    uint64_t price;     /* price specified of the live ones together (field 17), in haléře */
+    uint64_t held;      /* records held in `file` */
+    uint64_t used;      /* bytes used in `journal` */
+} fuganorezi_counts;
+
+/*
+ * Each call answers its code and sets `*place` and `*counts`. An accepted call answers 0, place 0.
+ * A refused one changes neither buffer, and the counts stay as they were; those of a refused
+ * opening are set to zero.
+ *
+ * The two buffers, the counts, the record or identifier, and the place share no memory with each
+ * other. `counts` and `place` are not NULL.
+ *
+ * Each call but opening first makes the file anew from the whole journal and compares, so it takes
+ * the longer the more the journal has. For this it needs stack: less than 408 KiB, whatever the
+ * length of the buffers.
+ *
+ * The codes, in the order in which they are looked for. The place is 0 where none is given.
+ *
+ * 235      a buffer has none of the lengths above (all calls).
+ * 237      file, journal and counts are not what the journal's entries make from an opening, each
+ *          acceptable in its turn (all calls but opening).
+ * 236      the record has not 399 bytes (add, amend), the identifier not 13 (cancel).
+ *   1 (1)  the identifier is not right (cancel).
+ *   1 to 72  of the record (add, amend): as in the list of the file check, from 1 down to 72 and
+ *          with the same places; but a status that is not blank is malformed here: 210 (19).
+ *   2 (1)  the identifier is there already, cancelled or not (add).
+ * 232      the identifier is not there (amend, cancel).
+ * 233      the consignment is cancelled (amend, cancel).
+ * 230      the file buffer has no place for one record more (add).
+ * 231      the journal has not the room for the entry (add, amend, cancel).
+ * 234      there is nothing to undo (undo).
+ */
+
+/* Sets both buffers to zero, whatever they held, and gives zero counts. */
+uint32_t fuganorezi_batch_open(uint8_t *file, size_t file_length, uint8_t *journal, size_t journal_length,
+                               fuganorezi_counts *counts, uint32_t *place);
+
+/* Puts a record, 399 bytes without line end, behind the last. */
+uint32_t fuganorezi_batch_add(uint8_t *file, size_t file_length, uint8_t *journal, size_t journal_length,
+                              fuganorezi_counts *counts, const uint8_t *record, size_t length, uint32_t *place);
+
+/* Puts a record in the place of the one with the same identifier. */
+uint32_t fuganorezi_batch_amend(uint8_t *file, size_t file_length, uint8_t *journal, size_t journal_length,
+                                fuganorezi_counts *counts, const uint8_t *record, size_t length, uint32_t *place);
+
+/* Sets the status of the record with this identifier to cancelled. */
+uint32_t fuganorezi_batch_cancel(uint8_t *file, size_t file_length, uint8_t *journal, size_t journal_length,
+                                 fuganorezi_counts *counts, const uint8_t *identifier, size_t length,
+                                 uint32_t *place);
+
+/* Takes back the latest action that stands, with its entry; what it freed serves the next. */
+uint32_t fuganorezi_batch_undo(uint8_t *file, size_t file_length, uint8_t *journal, size_t journal_length,
+                               fuganorezi_counts *counts, uint32_t *place);
 
 #ifdef __cplusplus
 }

@@ -1,0 +1,29 @@
+-- `fuganorezi::fuganorezi_batch_cancel` meets its contract: what it answers is what the batch answered, in C's numbers.
+-- Assumes nothing.
+use borrow.Author.Needs.{needs}
+use Rattle.fuganorezi.proofs.Ways.{told-from}
+use Rattle.fuganorezi.proofs.fuganorezi_batch_cancel.Statement.{statement}
+use Rattle.fuganorezi.proofs.fuganorezi_batch_cancel.Tie as tie
+
+counts-in-requires : tie.Need-counts-in-requires
+counts-in-requires c κs = search needs
+
+cancel-requires : tie.Need-cancel-requires
+cancel-requires c κs = search needs
+
+tell-requires : tie.Need-tell-requires
+tell-requires c κs = search needs
+
+same-length : tie.Need-same-length
+same-length c = search needs
+
+same-length-2 : tie.Need-same-length-2
+same-length-2 c = search needs
+
+returns : tie.Need-returns
+returns c = search told-from
+
+pub fuganorezi-batch-cancel-spec : {M : Type 1} → statement M
+fuganorezi-batch-cancel-spec =
+    tie.close
+    (tie.spec counts-in-requires cancel-requires tell-requires same-length same-length-2 returns)
