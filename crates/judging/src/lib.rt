@@ -1,5 +1,7 @@
 // What the programs that run judged vectors share: each item of a file is answered by a line on standard output.
 // The file's name goes along for what is told on standard error.
+mod history;
+
 ghost use Prim.Native.Nat.{_<_};
 ghost use lib.ListN.{length};
 ghost use Rattle.io.specs.Counts.{Counts};
@@ -16,6 +18,7 @@ pub enum Kind {
     Identifiers,
     Records,
     Files,
+    Histories,
 }
 
 // A loop has to end, and nothing says that a file does: no file of vectors has so many items.
@@ -47,9 +50,14 @@ fn print_file_answer(answer: FileAnswer) -> bool {
     print_line(&numbers)
 }
 
-fn tell_broken(path: &[u8]) {
+// Tells what is wrong with the file of this name.
+fn tell(path: &[u8], what: &[u8]) {
     io::write_all(STDERR_FILENO, path);
-    io::write_all(STDERR_FILENO, b" is cut short or cannot be read\n");
+    io::write_all(STDERR_FILENO, what);
+}
+
+fn tell_broken(path: &[u8]) {
+    tell(path, b" is cut short or cannot be read\n");
 }
 
 // Whether all of an item was there; tells where it was not.
@@ -108,6 +116,7 @@ fn answer_item(kind: Kind, fd: i32, size: usize, path: &[u8]) -> bool {
         Kind::Identifiers => answer_identifier(fd, size, path),
         Kind::Records => answer_record(fd, size, path),
         Kind::Files => answer_file(fd, size, path),
+        Kind::Histories => history::answer(fd, size, path),
     }
 }
 
