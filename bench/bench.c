@@ -44,9 +44,7 @@ static void compare_on_vectors(const char *items_path, const char *lines_path)
     unsigned long number = 0;
     uint64_t expected[NUMBERS];
     while (next_item(items, items_path, &item)) {
-        for (int i = 0; i < NUMBERS; i++)
-            if (fscanf(lines, "%" SCNu64, &expected[i]) != 1)
-                give_up(lines_path, "fewer lines than items");
+        read_line(lines, lines_path, expected, NUMBERS);
         compare_both("judged file", ++number, &item, expected);
         free(item.bytes);
     }

@@ -5,25 +5,23 @@
 static void check_file(const char *path, unsigned long number, const struct item *item, const char *lines_path,
                        FILE *lines)
 {
-    uint64_t out[7], expected;
+    uint64_t out[7], expected[7];
     uint32_t code = reference_file_check(item->bytes, item->length, out);
     expect(path, number, code, out[0]);
-    for (int i = 0; i < 7; i++) {
-        if (fscanf(lines, "%" SCNu64, &expected) != 1)
-            give_up(lines_path, "fewer lines than items");
-        expect(path, number, out[i], expected);
-    }
+    read_line(lines, lines_path, expected, 7);
+    for (int i = 0; i < 7; i++)
+        expect(path, number, out[i], expected[i]);
 }
 
 static void check_record(const char *path, unsigned long number, const struct item *item, const char *lines_path,
                          FILE *lines)
 {
-    uint32_t place, expected_code, expected_place;
+    uint64_t code_and_place[2];
+    uint32_t place;
     uint32_t code = reference_record_check(item->bytes, item->length, &place);
-    if (fscanf(lines, "%" SCNu32 " %" SCNu32, &expected_code, &expected_place) != 2)
-        give_up(lines_path, "fewer lines than items");
-    expect(path, number, code, expected_code);
-    expect(path, number, place, expected_place);
+    read_line(lines, lines_path, code_and_place, 2);
+    expect(path, number, code, code_and_place[0]);
+    expect(path, number, place, code_and_place[1]);
 }
 
 typedef void check(const char *, unsigned long, const struct item *, const char *, FILE *);
@@ -34,13 +32,11 @@ static void check_all(check *check_one, const char *items_path, const char *line
     FILE *lines = open_or_give_up(lines_path);
     struct item item;
     unsigned long number = 0;
-    uint32_t more;
     while (next_item(items, items_path, &item)) {
         check_one(items_path, ++number, &item, lines_path, lines);
         free(item.bytes);
     }
-    if (fscanf(lines, "%" SCNu32, &more) == 1)
-        give_up(lines_path, "more lines than items");
+    expect_no_line(lines, lines_path);
     printf("%s: %lu items\n", items_path, number);
     fclose(items);
     fclose(lines);

@@ -2,42 +2,16 @@
  * The file check from C: the judged vectors, every prefix of a good file, the largest files, the paper's example 14.
  * The bytes asked about always end where memory that cannot be read begins, and cannot be written during the call.
  */
-#define _DEFAULT_SOURCE /* for MAP_ANONYMOUS */
+#define _DEFAULT_SOURCE /* for fenced.h */
+#include "fenced.h"
 #include "fuganorezi.h"
 #include "good_file.h"
 #include "judged.h"
 
-#include <sys/mman.h>
-#include <unistd.h>
-
 enum { MOST_RECORDS = 999, PREFIX_RECORDS = 2 * GOOD_KINDS, NUMBERS = 7 };
 
-/* Memory for one byte and one record more than the largest file, and behind it a page that cannot be read. */
-struct fenced {
-    uint8_t *start, *fence;
-};
-
-static struct fenced fenced_memory(void)
-{
-    size_t page = (size_t)sysconf(_SC_PAGESIZE);
-    size_t wanted = (size_t)(MOST_RECORDS + 1) * GOOD_STEP + 1;
-    size_t room = (wanted + page - 1) / page * page;
-    void *start = mmap(NULL, room + page, PROT_READ | PROT_WRITE, MAP_PRIVATE | MAP_ANONYMOUS, -1, 0);
-    if (start == MAP_FAILED)
-        give_up("mmap", "no memory");
-    struct fenced memory = {start, (uint8_t *)start + room};
-    if (mprotect(memory.fence, page, PROT_NONE) != 0)
-        give_up("mprotect", "cannot fence memory");
-    return memory;
-}
-
+/* Memory for one byte and one record more than the largest file. */
 static struct fenced memory;
-
-static void protect_bytes(int protection)
-{
-    if (mprotect(memory.start, (size_t)(memory.fence - memory.start), protection) != 0)
-        give_up("mprotect", "cannot protect memory");
-}
 
 static void expect_numbers(const char *what, unsigned long number, uint32_t code, const uint64_t out[NUMBERS],
                            const uint64_t expected[NUMBERS])
@@ -54,9 +28,9 @@ static void ask_fenced(const char *what, unsigned long number, size_t length, co
     uint64_t around[NUMBERS + 2];
     for (int i = 0; i < NUMBERS + 2; i++)
         around[i] = untouched;
-    protect_bytes(PROT_READ);
+    protect(memory, PROT_READ);
     uint32_t code = fuganorezi_file_check(memory.fence - length, length, around + 1);
-    protect_bytes(PROT_READ | PROT_WRITE);
+    protect(memory, PROT_READ | PROT_WRITE);
     expect_numbers(what, number, code, around + 1, expected);
     expect(what, number, around[0], untouched);
     expect(what, number, around[NUMBERS + 1], untouched);
@@ -65,10 +39,7 @@ static void ask_fenced(const char *what, unsigned long number, size_t length, co
 static void ask(const char *what, unsigned long number, const uint8_t *bytes, size_t length,
                 const uint64_t expected[NUMBERS])
 {
-    if (length > (size_t)(memory.fence - memory.start))
-        give_up(what, "longer than the fenced memory");
-    if (length != 0)
-        memcpy(memory.fence - length, bytes, length);
+    put_before_fence(memory, bytes, length);
     ask_fenced(what, number, length, expected);
 }
 
@@ -115,12 +86,11 @@ static void ask_prefixes(const uint8_t *file)
 /* An earlier record once more at the end, live and cancelled: neither status hides that it was there. */
 static void ask_repeated(uint8_t *file, unsigned records, unsigned earlier)
 {
-    enum { STATUS = 340 };
     uint8_t *last = file + (size_t)(records - 1) * GOOD_STEP;
     put_good_record(last, earlier);
-    last[STATUS] = ' ';
+    last[GOOD_STATUS] = ' ';
     ask_refused("repeated identifier, live", file, (size_t)records * GOOD_STEP, 2, records, 1);
-    last[STATUS] = '0';
+    last[GOOD_STATUS] = '0';
     ask_refused("repeated identifier, cancelled", file, (size_t)records * GOOD_STEP, 2, records, 1);
     put_good_record(last, records);
 }
@@ -187,13 +157,6 @@ static void ask_made_files(void)
     ask_accepted("999 records again", file, MOST_RECORDS);
 }
 
-static void read_numbers(FILE *lines, const char *path, uint64_t numbers[NUMBERS])
-{
-    for (int i = 0; i < NUMBERS; i++)
-        if (fscanf(lines, "%" SCNu64, &numbers[i]) != 1)
-            give_up(path, "fewer lines than items");
-}
-
 static void ask_vectors(const char *items_path, const char *lines_path)
 {
     FILE *items = open_or_give_up(items_path);
@@ -202,12 +165,11 @@ static void ask_vectors(const char *items_path, const char *lines_path)
     unsigned long number = 0;
     uint64_t expected[NUMBERS];
     while (next_item(items, items_path, &item)) {
-        read_numbers(lines, lines_path, expected);
+        read_line(lines, lines_path, expected, NUMBERS);
         ask(items_path, ++number, item.bytes, item.length, expected);
         free(item.bytes);
     }
-    if (fscanf(lines, "%" SCNu64, &expected[0]) == 1)
-        give_up(lines_path, "more lines than items");
+    expect_no_line(lines, lines_path);
     fclose(items);
     fclose(lines);
 }
@@ -216,7 +178,7 @@ int main(int count, char **words)
 {
     if (count != 3)
         give_up(words[0], "wants a file of items and one of their lines");
-    memory = fenced_memory();
+    memory = fenced_memory((size_t)(MOST_RECORDS + 1) * GOOD_STEP + 1);
     ask_no_bytes();
     ask_example_14();
     ask_made_files();

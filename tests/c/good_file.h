@@ -11,7 +11,7 @@
 #include <stdio.h>
 #include <string.h>
 
-enum { GOOD_STEP = 401, GOOD_KINDS = 6 };
+enum { GOOD_STEP = 401, GOOD_STATUS = 340, GOOD_KINDS = 6 };
 
 /* What a file of good records has to be answered with. */
 struct good_totals {
@@ -141,6 +141,13 @@ static inline void put_good_record(uint8_t *record, unsigned number)
     if (good_has_price(number))
         put_amount(record, 17, good_price(number));
     put_good_services(record, kind, identifier);
+}
+
+/* Likewise, but never cancelled, as a batch takes it. */
+static inline void put_good_posting(uint8_t *record, unsigned number)
+{
+    put_good_record(record, number);
+    record[GOOD_STATUS] = ' ';
 }
 
 /* Writes records 1 to `records`. */

@@ -46,16 +46,14 @@ static void ask_vectors(const char *items_path, const char *lines_path)
     FILE *lines = open_or_give_up(lines_path);
     struct item item;
     unsigned long number = 0;
-    uint32_t code, place;
+    uint64_t code_and_place[2];
     while (next_item(items, items_path, &item)) {
         number++;
-        if (fscanf(lines, "%" SCNu32 " %" SCNu32, &code, &place) != 2)
-            give_up(lines_path, "fewer lines than items");
-        expect(items_path, number, fuganorezi_identifier_check(item.bytes, item.length), code);
+        read_line(lines, lines_path, code_and_place, 2);
+        expect(items_path, number, fuganorezi_identifier_check(item.bytes, item.length), code_and_place[0]);
         free(item.bytes);
     }
-    if (fscanf(lines, "%" SCNu32, &code) == 1)
-        give_up(lines_path, "more lines than items");
+    expect_no_line(lines, lines_path);
     fclose(items);
     fclose(lines);
 }

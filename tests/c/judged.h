@@ -42,6 +42,12 @@ static inline FILE *open_or_give_up(const char *path)
     return file;
 }
 
+/* The number that four bytes write, the lowest first. */
+static inline size_t four_bytes(const uint8_t bytes[4])
+{
+    return bytes[0] | (size_t)bytes[1] << 8 | (size_t)bytes[2] << 16 | (size_t)bytes[3] << 24;
+}
+
 /* The next item, in memory of exactly its length, which the caller frees; 0 at the file's end. */
 static inline int next_item(FILE *from, const char *path, struct item *item)
 {
@@ -51,13 +57,28 @@ static inline int next_item(FILE *from, const char *path, struct item *item)
         return 0;
     if (got != sizeof head)
         give_up(path, "cut short in a length");
-    item->length = head[0] | (size_t)head[1] << 8 | (size_t)head[2] << 16 | (size_t)head[3] << 24;
+    item->length = four_bytes(head);
     item->bytes = malloc(item->length);
     if (item->bytes == NULL && item->length != 0)
         give_up(path, "an item too long for the memory");
     if (fread(item->bytes, 1, item->length, from) != item->length)
         give_up(path, "cut short in an item");
     return 1;
+}
+
+/* The numbers of the next line. */
+static inline void read_line(FILE *lines, const char *path, uint64_t *numbers, size_t count)
+{
+    for (size_t i = 0; i < count; i++)
+        if (fscanf(lines, "%" SCNu64, &numbers[i]) != 1)
+            give_up(path, "fewer lines than answers");
+}
+
+static inline void expect_no_line(FILE *lines, const char *path)
+{
+    uint64_t number;
+    if (fscanf(lines, "%" SCNu64, &number) == 1)
+        give_up(path, "more lines than answers");
 }
 
 /* Prints the summary, and gives the status to end with. */

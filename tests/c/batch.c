@@ -1,0 +1,488 @@
+/*
+ * The open batch from C: the paper's example 15, the judged histories, each refusal, and batches of full size.
+ * Buffers, counts and bytes end where memory that cannot be read begins, and each call has the stack that the header says.
+ */
+#define _DEFAULT_SOURCE /* for fenced.h */
+#include "fenced.h"
+#include "fuganorezi.h"
+#include "good_file.h"
+
+#include <ucontext.h>
+
+enum {
+    RECORD = 399,
+    IDENTIFIER = 13,
+    ADDITION = 403, /* the lengths of whole entries */
+    CANCELLATION = 17,
+    MOST_RECORDS = 999,
+    LONGEST_FILE = MOST_RECORDS * GOOD_STEP,
+    LONGEST_JOURNAL = 1048576,
+    STACK = 400 * 1024,
+    COUNTS = 6,
+    LINE = 2 + COUNTS + 2
+};
+
+_Static_assert(sizeof(fuganorezi_counts) == COUNTS * sizeof(uint64_t), "six numbers in a row");
+
+/* The first five are numbered as in the judged histories. */
+enum op { OPEN, ADD, CANCEL, AMEND, UNDO, SPOIL_FILE, SPOIL_JOURNAL, SPOIL_COUNT };
+
+/* A batch whose counts stand before a fence too, and what its latest call answered. */
+struct batch {
+    uint8_t *file, *journal;
+    size_t file_length, journal_length;
+    fuganorezi_counts *counts;
+    uint32_t code, place;
+};
+
+static struct fenced file_memory, journal_memory, counts_memory, bytes_memory, stack_memory;
+
+static void make_memory(void)
+{
+    file_memory = fenced_memory(LONGEST_FILE + GOOD_STEP);
+    journal_memory = fenced_memory(LONGEST_JOURNAL + 1);
+    counts_memory = fenced_memory(sizeof(fuganorezi_counts));
+    bytes_memory = fenced_memory(1000);
+    stack_memory = fenced_memory(STACK);
+}
+
+/* The one batch that there is at a time. */
+static struct batch new_batch(size_t file_length, size_t journal_length)
+{
+    struct batch b = {before_fence(file_memory, file_length), before_fence(journal_memory, journal_length), file_length,
+                      journal_length, (fuganorezi_counts *)(void *)before_fence(counts_memory, sizeof(fuganorezi_counts)),
+                      0, 0};
+    memset(b.file, 7, file_length);
+    memset(b.journal, 0, journal_length);
+    memset(b.counts, 0, sizeof *b.counts);
+    return b;
+}
+
+static uint64_t *count_of(fuganorezi_counts *counts, unsigned which)
+{
+    uint64_t *const all[COUNTS] = {&counts->live,  &counts->cancelled, &counts->cash,
+                                   &counts->price, &counts->held,      &counts->used};
+    if (which >= COUNTS)
+        give_up("a history", "names a count that there is not");
+    return all[which];
+}
+
+/* Calls, on a stack of exactly the length that the header asks for. */
+
+static struct {
+    struct batch *b;
+    enum op op;
+    const uint8_t *bytes;
+    size_t length;
+} pending;
+
+static ucontext_t caller, callee;
+
+static uint32_t call(struct batch *b, enum op op, const uint8_t *bytes, size_t length)
+{
+    uint8_t *file = b->file, *journal = b->journal;
+    size_t n = b->file_length, m = b->journal_length;
+    switch (op) {
+    case OPEN:
+        return fuganorezi_batch_open(file, n, journal, m, b->counts, &b->place);
+    case ADD:
+        return fuganorezi_batch_add(file, n, journal, m, b->counts, bytes, length, &b->place);
+    case CANCEL:
+        return fuganorezi_batch_cancel(file, n, journal, m, b->counts, bytes, length, &b->place);
+    case AMEND:
+        return fuganorezi_batch_amend(file, n, journal, m, b->counts, bytes, length, &b->place);
+    case UNDO:
+        return fuganorezi_batch_undo(file, n, journal, m, b->counts, &b->place);
+    default:
+        give_up("a test", "calls what is no call");
+        return 0;
+    }
+}
+
+static void perform_pending(void)
+{
+    pending.b->code = call(pending.b, pending.op, pending.bytes, pending.length);
+}
+
+/* The bytes stand before a fence and cannot be written during the call. */
+static void perform(struct batch *b, enum op op, const uint8_t *bytes, size_t length)
+{
+    pending.b = b;
+    pending.op = op;
+    pending.bytes = bytes == NULL ? NULL : put_before_fence(bytes_memory, bytes, length);
+    pending.length = length;
+    b->place = UINT32_MAX;
+    if (getcontext(&callee) != 0)
+        give_up("getcontext", "no context");
+    callee.uc_stack.ss_sp = stack_memory.start;
+    callee.uc_stack.ss_size = (size_t)(stack_memory.fence - stack_memory.start);
+    callee.uc_link = &caller;
+    makecontext(&callee, perform_pending, 0);
+    protect(bytes_memory, PROT_READ);
+    if (swapcontext(&caller, &callee) != 0)
+        give_up("swapcontext", "no context");
+    protect(bytes_memory, PROT_READ | PROT_WRITE);
+}
+
+static void expect_answer(const char *what, unsigned long number, const struct batch *b, uint64_t code, uint64_t place)
+{
+    expect(what, number, b->code, code);
+    expect(what, number, b->place, place);
+}
+
+static void ask_accepted(const char *what, unsigned long number, struct batch *b, enum op op, const uint8_t *bytes,
+                         size_t length)
+{
+    perform(b, op, bytes, length);
+    expect_answer(what, number, b, 0, 0);
+}
+
+/* A call that may refuse: if so, no byte changes and the counts stay; those of a refused opening are zero. */
+static void ask(const char *what, unsigned long number, struct batch *b, enum op op, const uint8_t *bytes, size_t length)
+{
+    static uint8_t file[LONGEST_FILE + GOOD_STEP], journal[LONGEST_JOURNAL + 1];
+    fuganorezi_counts counts = *b->counts;
+    memcpy(file, b->file, b->file_length);
+    memcpy(journal, b->journal, b->journal_length);
+    perform(b, op, bytes, length);
+    if (b->code == 0)
+        return;
+    if (op == OPEN)
+        memset(&counts, 0, sizeof counts);
+    expect(what, number, memcmp(file, b->file, b->file_length) == 0, 1);
+    expect(what, number, memcmp(journal, b->journal, b->journal_length) == 0, 1);
+    expect(what, number, memcmp(&counts, b->counts, sizeof counts) == 0, 1);
+}
+
+static void ask_refused(const char *what, unsigned long number, struct batch *b, enum op op, const uint8_t *bytes,
+                        size_t length, uint64_t code, uint64_t place)
+{
+    ask(what, number, b, op, bytes, length);
+    expect_answer(what, number, b, code, place);
+}
+
+/* States */
+
+static int all_zero(const uint8_t *bytes, size_t length)
+{
+    return length == 0 || (bytes[0] == 0 && memcmp(bytes, bytes + 1, length - 1) == 0);
+}
+
+static void expect_empty(const char *what, const struct batch *b)
+{
+    static const fuganorezi_counts none;
+    expect(what, 0, (uint64_t)all_zero(b->file, b->file_length), 1);
+    expect(what, 1, (uint64_t)all_zero(b->journal, b->journal_length), 1);
+    expect(what, 2, memcmp(b->counts, &none, sizeof none) == 0, 1);
+}
+
+/* The records held are a good file with the same totals, and behind them and behind the entries are zeros. */
+static void expect_good_file(const char *what, const struct batch *b)
+{
+    size_t filled = (size_t)b->counts->held * GOOD_STEP;
+    uint64_t out[7];
+    expect(what, 0, fuganorezi_file_check(b->file, filled, out), 0);
+    for (unsigned i = 0; i < 4; i++)
+        expect(what, i + 1, out[i + 3], *count_of(b->counts, i));
+    expect(what, 5, (uint64_t)all_zero(b->file + filled, b->file_length - filled), 1);
+    expect(what, 6, (uint64_t)all_zero(b->journal + b->counts->used, b->journal_length - b->counts->used), 1);
+}
+
+static struct batch open_batch(size_t file_length, size_t journal_length)
+{
+    struct batch b = new_batch(file_length, journal_length);
+    ask_accepted("open", file_length, &b, OPEN, NULL, 0);
+    expect_empty("opened", &b);
+    return b;
+}
+
+/* Records of our own: number 1 has service 41, so cash on delivery and a price. */
+
+static void posting(uint8_t record[GOOD_STEP], unsigned number)
+{
+    put_good_posting(record, number);
+}
+
+/* The same consignment with another weight, so that each version differs. */
+static void posting_version(uint8_t record[GOOD_STEP], unsigned number, unsigned version)
+{
+    char weight[16];
+    posting(record, number);
+    snprintf(weight, sizeof weight, "%2u.%03u", 1 + version / 1000 % 99, version % 1000);
+    put_field(record, 15, weight);
+}
+
+static void add_posting(struct batch *b, unsigned number)
+{
+    uint8_t record[GOOD_STEP];
+    posting(record, number);
+    ask_accepted("add", number, b, ADD, record, RECORD);
+}
+
+/* Example 15 */
+
+static void ask_example_15(void)
+{
+    static const char entry[] = "\x11\x00\x02\x00" "BO5412345671F";
+    struct batch b = open_batch(2 * GOOD_STEP, 2 * ADDITION);
+    uint8_t record[GOOD_STEP];
+    posting(record, 1);
+    put_field(record, 1, "BO5412345671F");
+    ask_accepted("example 15, add", 0, &b, ADD, record, RECORD);
+    ask_accepted("example 15, cancel", 0, &b, CANCEL, (const uint8_t *)"BO5412345671F", IDENTIFIER);
+    expect("example 15, used", 0, b.counts->used, ADDITION + CANCELLATION);
+    expect("example 15, entry", 0, memcmp(b.journal + ADDITION, entry, CANCELLATION) == 0, 1);
+    record[GOOD_STATUS] = '0';
+    expect("example 15, file", 0, memcmp(b.file, record, GOOD_STEP) == 0, 1);
+    expect("example 15, live", 0, b.counts->live, 0);
+    expect("example 15, cancelled", 0, b.counts->cancelled, 1);
+    expect("example 15, cash", 0, b.counts->cash, 0);
+    expect_good_file("example 15", &b);
+}
+
+/* Refusals */
+
+static void ask_wrong_lengths(void)
+{
+    static const size_t lengths[][2] = {
+        {0, 0},           {0, ADDITION},        {GOOD_STEP - 1, ADDITION},
+        {GOOD_STEP, 0},   {GOOD_STEP, 402},     {GOOD_STEP + 1, ADDITION},
+        {LONGEST_FILE + GOOD_STEP, ADDITION},   {GOOD_STEP, LONGEST_JOURNAL + 1},
+    };
+    for (size_t i = 0; i < sizeof lengths / sizeof lengths[0]; i++) {
+        struct batch b = new_batch(lengths[i][0], lengths[i][1]);
+        if (b.file_length == 0)
+            b.file = NULL;
+        if (b.journal_length == 0)
+            b.journal = NULL;
+        for (enum op op = OPEN; op <= UNDO; op++) {
+            b.counts->live = 3;
+            perform(&b, op, NULL, 0);
+            expect_answer("wrong lengths", i, &b, 235, 0);
+            expect("wrong lengths, counts", i, b.counts->live, op == OPEN ? 0 : 3);
+        }
+    }
+}
+
+/* Whatever is spoiled, no call but opening takes it, and when it is put right all do. */
+static void ask_spoiled(struct batch *b, const char *what, uint8_t *byte)
+{
+    *byte ^= 1;
+    for (enum op op = ADD; op <= UNDO; op++)
+        ask_refused(what, op, b, op, NULL, 0, 237, 0);
+    *byte ^= 1;
+}
+
+static void ask_all_spoiled(struct batch *b)
+{
+    size_t filled = (size_t)b->counts->held * GOOD_STEP;
+    ask_spoiled(b, "first byte of the file", b->file);
+    ask_spoiled(b, "last byte of a record", b->file + filled - 1);
+    ask_spoiled(b, "byte behind the records", b->file + filled);
+    ask_spoiled(b, "last byte of the file", b->file + b->file_length - 1);
+    ask_spoiled(b, "first byte of the journal", b->journal);
+    ask_spoiled(b, "byte in an entry", b->journal + b->counts->used - 1);
+    ask_spoiled(b, "byte behind the entries", b->journal + b->counts->used);
+    ask_spoiled(b, "last byte of the journal", b->journal + b->journal_length - 1);
+    for (unsigned i = 0; i < COUNTS; i++) {
+        ask_spoiled(b, "a count, lowest byte", (uint8_t *)count_of(b->counts, i));
+        ask_spoiled(b, "a count, highest byte", (uint8_t *)count_of(b->counts, i) + 7);
+    }
+}
+
+static void ask_refused_record(struct batch *b, unsigned number, unsigned field, const char *text, uint64_t code)
+{
+    uint8_t record[GOOD_STEP];
+    posting(record, number);
+    put_field(record, field, text);
+    ask_refused("record, add", field, b, ADD, record, RECORD, code, field);
+    ask_refused("record, amend", field, b, AMEND, record, RECORD, code, field);
+}
+
+/* Three places, two held, the second of them cancelled; the journal has room for one cancellation more. */
+static void ask_refusals(void)
+{
+    struct batch b = open_batch(3 * GOOD_STEP, 2 * ADDITION + 3 * CANCELLATION);
+    uint8_t record[GOOD_STEP + 1];
+    ask_refused("nothing to undo", 0, &b, UNDO, NULL, 0, 234, 0);
+    add_posting(&b, 1);
+    add_posting(&b, 3);
+    posting(record, 3);
+    ask_accepted("cancel", 3, &b, CANCEL, record, IDENTIFIER);
+    ask_all_spoiled(&b);
+    ask_refused("no record", 0, &b, ADD, NULL, 0, 236, 0);
+    ask_refused("no record", 0, &b, AMEND, NULL, 0, 236, 0);
+    ask_refused("no identifier", 0, &b, CANCEL, NULL, 0, 236, 0);
+    ask_refused("short", 0, &b, ADD, record, RECORD - 1, 236, 0);
+    ask_refused("long", 0, &b, AMEND, record, RECORD + 1, 236, 0);
+    ask_refused("record for identifier", 0, &b, CANCEL, record, RECORD, 236, 0);
+    ask_refused("wrong identifier", 0, &b, CANCEL, (const uint8_t *)"BO0800000026F", IDENTIFIER, 1, 1);
+    ask_refused_record(&b, 1, 1, "BO0800000026F", 1);
+    ask_refused_record(&b, 1, 2, "20230229", 210);
+    ask_refused_record(&b, 1, 15, " 0.000", 34);
+    ask_refused_record(&b, 1, 19, "0", 210);
+    ask_refused("there already", 0, &b, ADD, record, RECORD, 2, 1);
+    ask_refused("cancelled", 0, &b, AMEND, record, RECORD, 233, 0);
+    ask_refused("cancelled", 1, &b, CANCEL, record, IDENTIFIER, 233, 0);
+    posting(record, 5);
+    ask_refused("not there", 0, &b, AMEND, record, RECORD, 232, 0);
+    ask_refused("not there", 1, &b, CANCEL, record, IDENTIFIER, 232, 0);
+    ask_refused("no room for an entry", 0, &b, ADD, record, RECORD, 231, 0);
+    posting(record, 1);
+    ask_refused("no room for an entry", 1, &b, AMEND, record, RECORD, 231, 0);
+    ask_accepted("room for a cancellation", 0, &b, CANCEL, record, IDENTIFIER);
+    expect_good_file("refusals", &b);
+    while (b.counts->used != 0)
+        ask_accepted("undo", b.counts->used, &b, UNDO, NULL, 0);
+    expect_empty("refusals undone", &b);
+}
+
+/* Judged histories */
+
+static uint32_t adler(const uint8_t *bytes, size_t length)
+{
+    uint32_t a = 1, b = 0;
+    for (size_t i = 0; i < length; i++) {
+        a = (a + bytes[i]) % 65521;
+        b = (b + a) % 65521;
+    }
+    return b << 16 | a;
+}
+
+static uint64_t eight_bytes(const uint8_t bytes[8])
+{
+    return four_bytes(bytes) | (uint64_t)four_bytes(bytes + 4) << 32;
+}
+
+/* Changes something behind the batch's back. */
+static void spoil(struct batch *b, enum op op, const uint8_t *bytes)
+{
+    if (op == SPOIL_COUNT)
+        *count_of(b->counts, bytes[0]) = eight_bytes(bytes + 1);
+    else
+        (op == SPOIL_FILE ? b->file : b->journal)[four_bytes(bytes)] = bytes[4];
+    b->code = b->place = 0;
+}
+
+static void expect_line(const char *what, unsigned long number, const struct batch *b, const uint64_t expected[LINE])
+{
+    expect_answer(what, number, b, expected[0], expected[1]);
+    for (unsigned i = 0; i < COUNTS; i++)
+        expect(what, number, *count_of(b->counts, i), expected[2 + i]);
+    expect(what, number, adler(b->file, b->file_length), expected[LINE - 2]);
+    expect(what, number, adler(b->journal, b->journal_length), expected[LINE - 1]);
+}
+
+static void ask_history(const char *what, unsigned long *number, const struct item *item, FILE *lines,
+                        const char *lines_path)
+{
+    struct batch b = new_batch(four_bytes(item->bytes), four_bytes(item->bytes + 4));
+    uint64_t expected[LINE];
+    size_t at = 8;
+    while (at < item->length) {
+        enum op op = (enum op)item->bytes[at];
+        size_t length = four_bytes(item->bytes + at + 1);
+        const uint8_t *bytes = item->bytes + at + 5;
+        ++*number;
+        if (op >= SPOIL_FILE)
+            spoil(&b, op, bytes);
+        else
+            ask(what, *number, &b, op, bytes, length);
+        read_line(lines, lines_path, expected, LINE);
+        expect_line(what, *number, &b, expected);
+        at += 5 + length;
+    }
+}
+
+static void ask_vectors(const char *items_path, const char *lines_path)
+{
+    FILE *items = open_or_give_up(items_path);
+    FILE *lines = open_or_give_up(lines_path);
+    struct item item;
+    unsigned long number = 0;
+    while (next_item(items, items_path, &item)) {
+        ask_history(items_path, &number, &item, lines, lines_path);
+        free(item.bytes);
+    }
+    expect_no_line(lines, lines_path);
+    fclose(items);
+    fclose(lines);
+}
+
+/* Full size */
+
+/* Undoes all that stands; each step takes off the length of one entry. */
+static void undo_all(const char *what, struct batch *b)
+{
+    while (b->counts->used != 0) {
+        uint64_t used = b->counts->used;
+        ask_accepted(what, used, b, UNDO, NULL, 0);
+        uint64_t freed = used - b->counts->used;
+        expect(what, used, freed == ADDITION || freed == CANCELLATION, 1);
+        if (b->code != 0)
+            return;
+    }
+    expect_empty(what, b);
+    ask_refused(what, 0, b, UNDO, NULL, 0, 234, 0);
+}
+
+/* As many records as a file can have, then no place for one more. */
+static void ask_full_file(void)
+{
+    struct batch b = open_batch(LONGEST_FILE, LONGEST_JOURNAL);
+    uint8_t record[GOOD_STEP];
+    uint64_t cash = 0, price = 0;
+    for (unsigned number = 1; number <= MOST_RECORDS; number++) {
+        add_posting(&b, number);
+        cash += good_cash(number);
+        price += good_price(number);
+        expect("full file, held", number, b.counts->held, number);
+        expect("full file, live", number, b.counts->live, number);
+        expect("full file, cash", number, b.counts->cash, cash);
+        expect("full file, price", number, b.counts->price, price);
+    }
+    expect_good_file("full file", &b);
+    posting(record, MOST_RECORDS + 1);
+    ask_refused("full file", MOST_RECORDS, &b, ADD, record, RECORD, 230, 0);
+    posting(record, MOST_RECORDS);
+    ask_refused("full file, there already", MOST_RECORDS, &b, ADD, record, RECORD, 2, 1);
+    undo_all("full file undone", &b);
+}
+
+/* Few records amended until the journal has no room for one amendment more: then it may have for a cancellation. */
+static void ask_full_journal(void)
+{
+    struct batch b = open_batch(LONGEST_FILE, LONGEST_JOURNAL);
+    uint8_t record[GOOD_STEP];
+    unsigned version = 0;
+    add_posting(&b, 1);
+    add_posting(&b, 2);
+    while (LONGEST_JOURNAL - b.counts->used >= ADDITION && b.code == 0) {
+        version++;
+        posting_version(record, 1 + version % 2, version);
+        ask_accepted("full journal, amend", version, &b, AMEND, record, RECORD);
+    }
+    expect("full journal, version", version, memcmp(b.file + version % 2 * GOOD_STEP, record, RECORD) == 0, 1);
+    expect_good_file("full journal", &b);
+    ask_refused("full journal", 0, &b, AMEND, record, RECORD, 231, 0);
+    posting(record, 3);
+    ask_refused("full journal", 1, &b, ADD, record, RECORD, 231, 0);
+    posting(record, 1);
+    ask_accepted("full journal", 2, &b, CANCEL, record, IDENTIFIER);
+    ask_refused("full journal", 3, &b, CANCEL, record, IDENTIFIER, 233, 0);
+    undo_all("full journal undone", &b);
+}
+
+int main(int count, char **words)
+{
+    if (count != 3)
+        give_up(words[0], "wants a file of histories and one of their lines");
+    make_memory();
+    ask_example_15();
+    ask_wrong_lengths();
+    ask_refusals();
+    ask_vectors(words[1], words[2]);
+    ask_full_file();
+    ask_full_journal();
+    return summary("batch");
+}
