@@ -24,7 +24,6 @@ use Rattle.batch.specs.declared.Counts.{Counts}
 use Rattle.batch.specs.Journal.{bodyLength, entryLength, kindAt, bodyAt, Run, runOf, replayFrom, zeros, rebuilt}
 use Rattle.batch.specs.Batch.{Batch, batchOf, countsOf, isZero, sameTotals, sound}
 use Rattle.batch.specs.History.{Action, Addition, Amendment, Cancellation, callOf, kindOf, bodyOf, recordsAfter, recordsFrom, recordsOf, actionRule, entryRule, ruleFor, rules, printed, linesOf, entryOf, entriesOf, made, InTurnBehind, InTurn, MadeBySome}
-use Rattle.batch.proofs.JournalWays.{clash}
 use Rattle.batch.proofs.GuardWays.{totals-same}
 use Rattle.batch.proofs.PrintedLines.{printed-long}
 use Rattle.batch.proofs.Sheets.{Sheet, sheet-none}
@@ -163,7 +162,7 @@ module _ (n m : ℕ) (xs : List Action) (st : Stands n m xs) where
     held = ap (λ (r : Run). r .walk .held) rebuilt-made;
     file = ap (λ (r : Run). r .file) rebuilt-made;
     rest = ap (every isZero) (drop-append-seam (entriesOf xs) (zeros (m - length (entriesOf xs)))) ∙ zeros-zero (m - length (entriesOf xs));
-    totals = totals-view n (recordsOf xs) sheet-made fits-made;
+    totals = totals-view n (recordsOf xs) sheet-made;
   }
 
 -- ---- what passes the test is made by such a list
@@ -215,7 +214,7 @@ module _ (b : Batch) (f : Sounds b) (r : ReadFrom (length (b .file)) [] (b .jour
   totals-are =
       sym (f .totals)
       ∙ (λ i. totalsOver (file-is i) (held-is i))
-      ∙ totals-view (length (b .file)) (recordsOf (r .acts)) (sheet-made _ _ (r .acts) stands-so) (fits-made _ _ (r .acts) stands-so)
+      ∙ totals-view (length (b .file)) (recordsOf (r .acts)) (sheet-made _ _ (r .acts) stands-so)
 
   found-so : Found b
   unfolding made

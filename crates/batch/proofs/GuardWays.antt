@@ -16,6 +16,7 @@ use Rattle.text.specs.Answers.{answer, accepted}
 use Rattle.text.specs.Bytes.{every}
 use Rattle.text.specs.Lists.{sameBytes, overlay}
 use Rattle.text.proofs.Lists.{spelled, put-is}
+use Rattle.text.proofs.Booleans.{clash}
 use Rattle.fields.specs.declared.Hellers.{Hellers}
 use Rattle.posting.specs.declared.Totals.{Totals}
 use Rattle.posting.specs.File.{totalsOver}
@@ -26,7 +27,6 @@ use Rattle.batch.specs.Journal.{head, entry, rebuilt, Run}
 use Rattle.batch.specs.Duties.{Replayed}
 use Rattle.batch.specs.Batch.{Batch, batchOf, isZero, sameTotals, sound, rightLengths}
 use Rattle.batch.specs.Guards.{Ready, Verified, Guarded}
-use Rattle.batch.proofs.JournalWays.{clash}
 
 -- totals whose numbers are the same
 record-of : (l k d q : ℕ) → Totals
@@ -46,7 +46,7 @@ totals-same a b h =
 
 -- a test that failed
 refused-by : (file journal : List ℕ) (c : Counts) (r : Verdict) → r .sound ≡ false → sound (batchOf file journal c) ≡ false → Verified file journal c r
-refused-by file journal c r f e = record { says = f ∙ sym e; ready = λ y. absurd (clash (r .sound) y f); finds = λ y. absurd (clash (r .sound) y f) }
+refused-by file journal c r f e = record { says = f ∙ sym e; ready = λ y. absurd (clash y f); finds = λ y. absurd (clash y f) }
 
 pub used-past : (file journal : List ℕ) (c : Counts) (r : Verdict) → r .sound ≡ false → length journal < c .used → Verified file journal c r
 unfolding sound

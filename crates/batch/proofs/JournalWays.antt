@@ -12,6 +12,7 @@ use lib.Dec.{eqb, leb}
 use lib.ListN.{length, getD, take, drop, length-take, length-drop}
 use Rattle.text.specs.declared.Answer.{Answer}
 use Rattle.text.specs.Answers.{answer, accepted}
+use Rattle.text.proofs.Booleans.{clash}
 use Rattle.ident.specs.Identifier.{rightId}
 use Rattle.layout.specs.Layout.{fieldOf}
 use Rattle.record.specs.Columns.{orElse}
@@ -20,9 +21,6 @@ use Rattle.batch.specs.declared.Walk.{Walk}
 use Rattle.batch.specs.Actions.{seek, present, placeOf, isCancelled, idOf, liveAnswer, addAnswer, amendAnswer, cancelAnswer, withLine, withCancelled, actionAnswer, actionFile, actionHeld}
 use Rattle.batch.specs.Journal.{bodyLength, entryLength, headStands, startsEntry, kindAt, bodyAt, Run, runOf, stepAs, stepOf}
 use Rattle.batch.specs.Duties.{Acceptable, Stepping, Moved, Stepped}
-
-pub clash : (b : Bool) → b ≡ true → b ≡ false → ⊥
-clash b p q = let z : _≡_ {A = ℕ} 0 1 = cc in omega arith
 
 -- ---- where an action is accepted
 pub or-both : (a b : Answer) → orElse a b .code ≡ 0 → (a .code ≡ 0) × (b .code ≡ 0)
@@ -161,7 +159,7 @@ entry-fits j end at k ek n = rw ek (go (startsEntry j end at 1) (startsEntry j e
       where
         by : (t x : Bool) → leb (entryLength kind) (end - at) ≡ t → cond t x false ≡ true → entryLength kind ≤ end - at
         by true x q h = leb-true (entryLength kind) (end - at) q
-        by false x q h = absurd (clash false h refl)
+        by false x q h = absurd (clash h refl)
 
     go : (a b d : Bool) → startsEntry j end at 1 ≡ a → startsEntry j end at 2 ≡ b → startsEntry j end at 3 ≡ d → (kindBy a b d ≡ 0 → ⊥)
         → entryLength (kindBy a b d) ≤ end - at
@@ -174,7 +172,7 @@ entry-fits j end at k ek n = rw ek (go (startsEntry j end at 1) (startsEntry j e
 module _ (file journal : List ℕ) (end held used k : ℕ) (ek : k ≡ kindAt journal end used) where
   pub no-entry : k ≡ 0 → Stepped file journal end held used (record { good = false; held = held; used = used; last = used }) file
   unfolding stepAs
-  no-entry z = record { walks = rw (← ek, eq-eqb k 0 z); files = rw (← ek, eq-eqb k 0 z); from = refl; moves = λ g. absurd (clash false g refl); stays = λ g. refl }
+  no-entry z = record { walks = rw (← ek, eq-eqb k 0 z); files = rw (← ek, eq-eqb k 0 z); from = refl; moves = λ g. absurd (clash g refl); stays = λ g. refl }
 
   module _ (some : k ≡ 0 → ⊥) (n : ℕ) (en : (n ≡ bodyLength k) × (13 ≤ n) × (n ≤ 399)) where
     -- what the code takes for the body
@@ -190,7 +188,7 @@ module _ (file journal : List ℕ) (end held used k : ℕ) (ek : k ≡ kindAt jo
 
       pub entry-refused : (a .code ≡ 0 → ⊥) → Stepped file journal end held used (record { good = false; held = held; used = used; last = used }) file
       unfolding stepAs
-      entry-refused z = record { walks = rw (← ek, ne-eqb k 0 some, here, ne-eqb (a .code) 0 z); files = rw (← ek, ne-eqb k 0 some, here, ne-eqb (a .code) 0 z); from = refl; moves = λ g. absurd (clash false g refl); stays = λ g. refl }
+      entry-refused z = record { walks = rw (← ek, ne-eqb k 0 some, here, ne-eqb (a .code) 0 z); files = rw (← ek, ne-eqb k 0 some, here, ne-eqb (a .code) 0 z); from = refl; moves = λ g. absurd (clash g refl); stays = λ g. refl }
 
       pub entry-acceptable : a .code ≡ 0 → Stepping file journal end held used → Acceptable file held k (take (used + 4 + n - (used + 4)) (drop (used + 4) journal))
       entry-acceptable z pre =
@@ -204,7 +202,7 @@ module _ (file journal : List ℕ) (end held used k : ℕ) (ek : k ≡ kindAt jo
       entry-done t h z pre et eh =
           let file-is : t ≡ actionFile file held k (bodyAt journal used k) = et ∙ ap (actionFile file held k) body-is in
           let next : used + 4 + n ≡ used + entryLength k = omega (arith, en .0) in
-          record { walks = rw (← ek, ne-eqb k 0 some, here, eq-eqb (a .code) 0 z, next, eh); files = rw (← ek, ne-eqb k 0 some, here, eq-eqb (a .code) 0 z) file-is; from = refl; moves = λ g. moved; stays = λ g. absurd (clash true refl g) }
+          record { walks = rw (← ek, ne-eqb k 0 some, here, eq-eqb (a .code) 0 z, next, eh); files = rw (← ek, ne-eqb k 0 some, here, eq-eqb (a .code) 0 z) file-is; from = refl; moves = λ g. moved; stays = λ g. absurd (clash refl g) }
         where
           moved : Moved file end used (record { good = true; held = h; used = used + 4 + n; last = used })
           moved =

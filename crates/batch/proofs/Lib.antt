@@ -9,9 +9,7 @@ pub mod Rows
 pub mod PrintedLines
 pub mod Sheets
 pub mod Views
-pub mod FileLines
 pub mod OneMore
-pub mod OneTouched
 pub mod SheetTotals
 pub mod Printing
 pub mod Parsing

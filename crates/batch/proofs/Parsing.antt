@@ -11,11 +11,11 @@ use lib.ListN.{length, getD, take, drop, length-append, length-drop}
 use lib.Seq.{take-add, drop-drop, length-take-le}
 use Rattle.text.specs.declared.Answer.{Answer}
 use Rattle.text.proofs.Lists.{step}
+use Rattle.text.proofs.Booleans.{clash}
 use Rattle.layout.specs.Widths.{joined}
 use Rattle.batch.specs.Actions.{actionAnswer, actionFile, actionHeld}
 use Rattle.batch.specs.Journal.{bodyLength, entryLength, entry, head, headStands, startsEntry, kindAt, bodyAt, Run, runOf, stepAs, stepOf, replayFrom, zeros, rebuilt}
 use Rattle.batch.specs.History.{Action, Addition, Amendment, Cancellation, kindOf, bodyOf, recordsAfter, recordsFrom, recordsOf, actionRule, printed, linesOf, entryOf, entriesOf}
-use Rattle.batch.proofs.JournalWays.{clash}
 use Rattle.batch.proofs.Sheets.{Kept, Sheet, sheet-none, sheet-step, held-step, fits-step}
 use Rattle.batch.proofs.Views.{lines-long, answer-view, file-view}
 use Rattle.batch.proofs.Printing.{Accepts, Ok, entry-long, kind-some, step-view}
@@ -46,7 +46,7 @@ pub record Headed (j : List ℕ) (end u size low high kind : ℕ) : Type 0 where
   pub bytes : u + 4 ≤ length j → take 4 (drop u j) ≡ low ∷ high ∷ kind ∷ 0 ∷ []
 
 headed : (j : List ℕ) (end u size low high kind : ℕ) → headStands j end u size low high kind ≡ true → Headed j end u size low high kind
-headed j end u size low high kind = by-cond P (leb size (end - u)) _ false (λ r h. there r h) (λ r h. absurd (clash false h refl))
+headed j end u size low high kind = by-cond P (leb size (end - u)) _ false (λ r h. there r h) (λ r h. absurd (clash h refl))
   where
     P : Bool → Type 0
     P b = b ≡ true → Headed j end u size low high kind
@@ -104,8 +104,8 @@ pub record WentWell (file j : List ℕ) (held u kind : ℕ) : Type 0 where
 went-well : (file j : List ℕ) (held u kind : ℕ) → stepAs kind file j held u .walk .good ≡ true → WentWell file j held u kind
 unfolding stepAs
 went-well file j held u kind =
-    by-cond P (eqb kind 0) _ _ (λ e h. absurd (clash false h refl))
-    (λ e. by-cond P (eqb (actionAnswer file held kind (bodyAt j u kind) .code) 0) _ _ (λ z h. record { some = eqb-false kind 0 e; met = eqb-true _ 0 z }) (λ z h. absurd (clash false h refl)))
+    by-cond P (eqb kind 0) _ _ (λ e h. absurd (clash h refl))
+    (λ e. by-cond P (eqb (actionAnswer file held kind (bodyAt j u kind) .code) 0) _ _ (λ z h. record { some = eqb-false kind 0 e; met = eqb-true _ 0 z }) (λ z h. absurd (clash h refl)))
   where
     P : Run → Type 0
     P r = r .walk .good ≡ true → WentWell file j held u kind
@@ -139,12 +139,12 @@ pub replay-read : (k n : ℕ) (recs : List (List ℕ)) (j : List ℕ) (end u v :
     → replayFrom k j end (runOf true (length recs) u v (printed n (linesOf recs))) .walk .good ≡ true
     → ReadFrom n recs j end u (replayFrom k j end (runOf true (length recs) u v (printed n (linesOf recs))))
 unfolding replayFrom
-replay-read zero n recs j end u v s f lim le = λ h. absurd (clash false h refl)
+replay-read zero n recs j end u v s f lim le = λ h. absurd (clash h refl)
 replay-read (suc k) n recs j end u v s f lim le =
     by-cond P (ltb u end) _ _
     (λ l. by-cond P (stepOf (printed n (linesOf recs)) j end (length recs) u .walk .good) _ _
     (λ g h. on (went-well (printed n (linesOf recs)) j (length recs) u (kindAt j end u) g) (λ qs w sq fq. replay-read k n qs j end w u sq fq lim) h)
-    (λ g h. absurd (clash (stepOf (printed n (linesOf recs)) j end (length recs) u .walk .good) h g)))
+    (λ g h. absurd (clash h g)))
     (λ l h. done (ltb-false u end l))
   where
     file : List ℕ

@@ -8,10 +8,13 @@ use native.Mathlib.Nat.{zero-add, suc-add, add-assoc, sub-zero, zero-sub, suc-su
 use native.Mathlib.Omega.{arith}
 use borrow.Author.Tests.{eqb-true, eqb-false}
 use lib.Dec.{eqb}
-use lib.ListN.{length, getD, take, drop, set, length-append, length-set, length-replicate, replicate-append-replicate}
-use lib.Seq.{take-append-seam, drop-append-seam, take-append-add, drop-append-add, take-at, drop-at, getD-take, getD-drop, getD-set-same, getD-set-other, set-append-left, set-set}
+use lib.ListN.{length, getD, take, drop, set, length-append, length-set, length-replicate, replicate-append-replicate, List·getD-append}
+use lib.Seq.{take-append-seam, drop-append-seam, take-append-add, drop-append-add, take-at, drop-at, getD-at, getD-drop, getD-append-add, getD-set-same, getD-set-other, set-append-left, set-set, ext-getD}
 use Rattle.text.specs.Lists.{overlay}
-use Rattle.posting.specs.File.{recordAt}
+use Rattle.posting.specs.File.{recordAt, totalsOver}
+use Rattle.posting.specs.Sums.{totalsOf}
+use Rattle.posting.proofs.Lines.{Ended}
+use Rattle.posting.proofs.RecordList.{length-upTo, upTo-nth, records, totals-are-sums}
 use Rattle.batch.specs.Actions.{lineOf}
 use Rattle.batch.specs.Journal.{zeros}
 use Rattle.batch.specs.History.{printed, linesOf}
@@ -95,16 +98,40 @@ lines-from (x ∷ recs) t (suc k) l h =
     ∙ lines-from recs t k (long-rest x recs l) (omega arith)
 
 module _ (recs : List (List ℕ)) (t : List ℕ) (k : ℕ) (l : Long recs) (h : k < length recs) where
+  -- what stands behind the line end of record k
+  abbrev rest : List ℕ
+  rest = linesOf (drop (suc k) recs) ++ t
+
+  from-there : drop (k * 401) (linesOf recs ++ t) ≡ getD recs k [] ++ 13 ∷ 10 ∷ rest
+  from-there = lines-from recs t k l h ∙ append-assoc (getD recs k []) (13 ∷ 10 ∷ []) rest
+
+  any-byte : (j : ℕ) → getD (linesOf recs ++ t) (k * 401 + j) 0 ≡ getD (getD recs k [] ++ 13 ∷ 10 ∷ rest) j 0
+  any-byte j = sym (getD-drop (k * 401) (linesOf recs ++ t) j 0) ∙ ap (λ (y : List ℕ). getD y j 0) from-there
+
   pub record-there : recordAt (linesOf recs ++ t) k ≡ getD recs k []
-  record-there =
-      let rest = linesOf (drop (suc k) recs) ++ t in
-      ap (λ (y : List ℕ). take 399 y) (lines-from recs t k l h ∙ append-assoc (getD recs k []) (13 ∷ 10 ∷ []) rest)
-      ∙ take-at (getD recs k []) (13 ∷ 10 ∷ rest) 399 (l k h)
+  record-there = ap (take 399) from-there ∙ take-at (getD recs k []) (13 ∷ 10 ∷ rest) 399 (l k h)
 
   pub byte-there : (j : ℕ) → j < 399 → getD (linesOf recs ++ t) (k * 401 + j) 0 ≡ getD (getD recs k []) j 0
-  byte-there j b =
-      sym (getD-drop (k * 401) (linesOf recs ++ t) j 0) ∙ sym (getD-take 399 (drop (k * 401) (linesOf recs ++ t)) j 0 b)
-      ∙ ap (λ (y : List ℕ). getD y j 0) record-there
+  byte-there j b = any-byte j ∙ List·getD-append (getD recs k []) (13 ∷ 10 ∷ rest) 0 j (omega (arith, l k h))
+
+  pub ended-there : Ended (linesOf recs ++ t) k
+  ended-there =
+      let last : length (getD recs k []) + 1 ≡ 400 = rw (l k h) in
+      record {
+        return = any-byte 399 ∙ getD-at (getD recs k []) 13 (10 ∷ rest) 0 399 (l k h);
+        feed = any-byte 400 ∙ (rw last at (getD-append-add (getD recs k []) (13 ∷ 10 ∷ rest) 1 0));
+      }
+
+-- what a file check makes of them
+module _ (recs : List (List ℕ)) (t : List ℕ) (l : Long recs) where
+  records-there : records (linesOf recs ++ t) (length recs) ≡ recs
+  records-there =
+      let many = length-upTo (recordAt (linesOf recs ++ t)) (length recs) in
+      ext-getD [] (records (linesOf recs ++ t) (length recs)) recs many
+      (λ i h. let within : i < length recs = rw many at h in upTo-nth (recordAt (linesOf recs ++ t)) (length recs) i [] within ∙ record-there recs t i l within)
+
+  pub totals-there : totalsOver (linesOf recs ++ t) (length recs) ≡ totalsOf recs
+  totals-there = totals-are-sums (linesOf recs ++ t) (length recs) ∙ ap totalsOf records-there
 
 -- record k replaced
 pub line-replaced : (recs : List (List ℕ)) (t : List ℕ) (k : ℕ) (rec : List ℕ) → Long recs → length rec ≡ 399 → k < length recs

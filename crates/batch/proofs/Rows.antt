@@ -9,7 +9,7 @@ use borrow.Author.Tests.{eqb-true, eqb-false}
 use lib.Dec.{eqb}
 use lib.ListN.{length, getD, set, length-append, length-set, List·getD-append}
 use lib.Seq.{getD-at, getD-set-same, getD-set-other, ext-getD}
-use Rattle.posting.proofs.Lines.{clash}
+use Rattle.text.proofs.Booleans.{clash}
 use Rattle.batch.specs.History.{some}
 
 -- ---- one more behind the last

@@ -17,7 +17,7 @@ use Rattle.ident.specs.Identifier.{rightId}
 use Rattle.layout.specs.Layout.{fieldOf}
 use Rattle.record.specs.Columns.{orElse}
 use Rattle.record.specs.Rules.{recordAnswer}
-use Rattle.record.proofs.Status.{posting-passes, withdrawn-passes}
+use Rattle.record.proofs.Status.{posting-passes, withdrawn-long, withdrawn-others, withdrawn-status, withdrawn-passes}
 use Rattle.batch.specs.Actions.{idOf, actionHeld}
 use Rattle.batch.specs.History.{Action, Addition, Amendment, Cancellation, kindOf, isWithdrawn, withdrawn, hasId, replacedBy, withdrawnFor, isPresent, isCancelledThere, liveRule, recordsAfter, actionRule}
 use Rattle.batch.proofs.JournalWays.{or-both}
@@ -47,20 +47,6 @@ pub status-is : (rec : List ℕ) → length rec ≡ 399 → fieldOf rec 19 ≡ t
 unfolding fieldOf
 status-is rec long = rw long
 
-module _ (rec : List ℕ) (long : length rec ≡ 399) where
-  pub withdrawn-long : length (withdrawn rec) ≡ 399
-  withdrawn-long = length-set (set rec 340 48) 341 32 ∙ length-set rec 340 48 ∙ long
-
-  pub withdrawn-id : idOf (withdrawn rec) ≡ idOf rec
-  withdrawn-id =
-      id-is (withdrawn rec) withdrawn-long ∙ take-set-le 13 (set rec 340 48) 341 32 (omega arith) ∙ take-set-le 13 rec 340 48 (omega arith) ∙ sym (id-is rec long)
-
-  pub withdrawn-status : fieldOf (withdrawn rec) 19 ≡ 48 ∷ 32 ∷ []
-  withdrawn-status =
-      let two : drop 340 rec ≡ getD rec 340 0 ∷ getD rec 341 0 ∷ drop 342 rec = drop-cons rec 340 0 (omega arith) ∙ ap (λ (t : List ℕ). getD rec 340 0 ∷ t) (drop-cons rec 341 0 (omega arith)) in
-      status-is (withdrawn rec) withdrawn-long ∙ ap (λ (t : List ℕ). take 2 t) (drop-set-add 340 (set rec 340 48) 1 32)
-      ∙ ap (λ (t : List ℕ). take 2 (set t 1 32)) (drop-set-add 340 rec 0 48 ∙ ap (λ (t : List ℕ). set t 0 48) two)
-
 -- ---- an accepted action
 -- an addition: the record passes, its identifier is new, and there is a place
 pub record Adds (recs : List (List ℕ)) (places : ℕ) (rec : List ℕ) : Type 0 where
@@ -80,21 +66,27 @@ adds recs places rec z =
     go false ep true eq t h = record { passes = t; new = ep; room = ltb-true (length recs) places eq }
     go false ep false eq t h = absurd (omega (arith, h))
 
-pub live-present : (recs : List (List ℕ)) (id : List ℕ) → liveRule recs id .code ≡ 0 → isPresent recs id ≡ true
-live-present recs id z = go (isPresent recs id) refl z
+-- present and not cancelled
+live-accepts : (recs : List (List ℕ)) (id : List ℕ) → liveRule recs id .code ≡ 0 → (isPresent recs id ≡ true) × (isCancelledThere recs id ≡ false)
+live-accepts recs id z = go (isPresent recs id) (isCancelledThere recs id) z
   where
-    go : (p : Bool) → isPresent recs id ≡ p → cond p (cond (isCancelledThere recs id) (answer 233 0) accepted) (answer 232 0) .code ≡ 0 → isPresent recs id ≡ true
-    go true e h = e
-    go false e h = absurd (omega (arith, h))
+    go : (p c : Bool) → cond p (cond c (answer 233 0) accepted) (answer 232 0) .code ≡ 0 → (p ≡ true) × (c ≡ false)
+    go true true z = absurd (omega arith)
+    go true false z = (refl, refl)
+    go false c z = absurd (omega arith)
 
--- an amendment: the record passes, and its identifier is present
-pub amends : (recs : List (List ℕ)) (places : ℕ) (rec : List ℕ) → actionRule recs places (Amendment rec) .code ≡ 0 → (recordAnswer true rec .code ≡ 0) × (isPresent recs (idOf rec) ≡ true)
+-- an amendment: the record passes, and its identifier is present and not cancelled
+pub amends : (recs : List (List ℕ)) (places : ℕ) (rec : List ℕ) → actionRule recs places (Amendment rec) .code ≡ 0
+    → (recordAnswer true rec .code ≡ 0) × (isPresent recs (idOf rec) ≡ true) × (isCancelledThere recs (idOf rec) ≡ false)
 unfolding actionRule
-amends recs places rec z = let both = or-both (recordAnswer true rec) (liveRule recs (idOf rec)) z in (both .0, live-present recs (idOf rec) (both .1))
+amends recs places rec z =
+    let both = or-both (recordAnswer true rec) (liveRule recs (idOf rec)) z in
+    let live = live-accepts recs (idOf rec) (both .1) in
+    (both .0, live .0, live .1)
 
-pub cancels : (recs : List (List ℕ)) (places : ℕ) (id : List ℕ) → actionRule recs places (Cancellation id) .code ≡ 0 → isPresent recs id ≡ true
+pub cancels : (recs : List (List ℕ)) (places : ℕ) (id : List ℕ) → actionRule recs places (Cancellation id) .code ≡ 0 → (isPresent recs id ≡ true) × (isCancelledThere recs id ≡ false)
 unfolding actionRule
-cancels recs places id z = live-present recs id (go (rightId id) z)
+cancels recs places id z = live-accepts recs id (go (rightId id) z)
   where
     go : (t : Bool) → cond t (liveRule recs id) (answer 1 1) .code ≡ 0 → liveRule recs id .code ≡ 0
     go true h = h
@@ -111,7 +103,7 @@ kept-withdrawn : (rec : List ℕ) → Kept rec → Kept (withdrawn rec)
 unfolding sameBytes
 kept-withdrawn rec k =
     let e = withdrawn-status rec (k .long) in
-    record { long = withdrawn-long rec (k .long); status = e ∙ rw e; passes = withdrawn-passes rec (k .long) (k .passes) }
+    record { long = withdrawn-long rec ∙ k .long; status = e ∙ rw e; passes = withdrawn-passes rec (k .long) (k .passes) }
 
 -- one record more, with a new identifier
 sheet-last : (recs : List (List ℕ)) (rec : List ℕ) → Sheet recs → Kept rec → isPresent recs (idOf rec) ≡ false → Sheet (recs ++ rec ∷ [])
@@ -170,7 +162,7 @@ module _ (id : List ℕ) where
   cancelled-id rec l = go (hasId id rec)
     where
       go : (t : Bool) → idOf (cond t (withdrawn rec) rec) ≡ idOf rec
-      go true = withdrawn-id rec (l .long)
+      go true = withdrawn-others rec 1 (λ e. omega (arith, e))
       go false = refl
 
 pub sheet-step : (recs : List (List ℕ)) (places : ℕ) (a : Action) → Sheet recs → actionRule recs places a .code ≡ 0 → Sheet (recordsAfter recs a)

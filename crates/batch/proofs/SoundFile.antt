@@ -11,10 +11,10 @@ use lib.ListN.{length, getD, take, drop, length-append}
 use lib.Seq.{take-at, drop-at, drop-append-add, take-append-seam, length-take-le}
 use Rattle.text.specs.declared.Answer.{Answer}
 use Rattle.text.specs.Lists.{overlay}
+use Rattle.text.proofs.Booleans.{clash}
 use Rattle.text.proofs.Lists.{same-exactly}
 use Rattle.posting.specs.File.{idAt, fileAnswer, passed}
 use Rattle.posting.specs.Sums.{totalsOf}
-use Rattle.posting.proofs.Lines.{clash}
 use Rattle.batch.specs.Actions.{idOf, lineOf, withLine, placeOf, actionFile}
 use Rattle.batch.specs.Journal.{zeros}
 use Rattle.batch.specs.Batch.{Batch, Call, Amend, rightLengths, sound, answerTo, entered, after}

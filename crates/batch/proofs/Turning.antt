@@ -95,7 +95,7 @@ module _ (n m : ℕ) (xs : List Action) (st : Stands n m xs) where
       record {
         is = batch-eq (file-view n (recordsOf xs) sh ft a (ok .rule) ∙ ap (λ (r : List (List ℕ)). printed n (linesOf r)) recs)
             (printed-more m (entriesOf xs) (entryOf a) ∙ ap (printed m) entries)
-            (totals-step n (recordsOf xs) sh ft (printed m (entriesOf xs)) (length (entriesOf xs)) a (ok .rule) ∙ ap totalsOf recs)
+            (totals-step n (recordsOf xs) sh (printed m (entriesOf xs)) (length (entriesOf xs)) a (ok .rule) ∙ ap totalsOf recs)
             (held-step (recordsOf xs) a ∙ ap length recs)
             used;
         stands = record { ok = ok-last n [] xs a (st .ok) ok; room = omega (arith, st .room, f .fits) };
@@ -143,7 +143,7 @@ module _ (n m : ℕ) (xs : List Action) (a : Action) (st : Stands n m (xs ++ a �
   unfolding made undone
   undone-is =
       batch-eq (ap (λ (r : Run). r .file) rebuilt-back) journal-back
-      (ap (λ (r : Run). totalsOver (r .file) (r .walk .held)) rebuilt-back ∙ totals-view n (recordsOf xs) (sheet-made n m xs stands-back) (fits-made n m xs stands-back))
+      (ap (λ (r : Run). totalsOver (r .file) (r .walk .held)) rebuilt-back ∙ totals-view n (recordsOf xs) (sheet-made n m xs stands-back))
       (ap (λ (r : Run). r .walk .held) rebuilt-back) latest-is
 
 latest-split : (a : Action) (xs : List Action) → (l : Action) × (withoutLatest (a ∷ xs) ++ l ∷ [] ≡ a ∷ xs)

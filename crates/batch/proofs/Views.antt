@@ -10,9 +10,9 @@ use lib.Dec.{eqb, ltb, leb}
 use lib.ListN.{length, getD, take, drop, set}
 use lib.Seq.{take-take, getD-take, getD-drop}
 use Rattle.text.specs.Lists.{sameBytes, overlay}
+use Rattle.text.proofs.Booleans.{clash}
 use Rattle.text.proofs.Lists.{same-exactly}
 use Rattle.posting.specs.File.{recordAt, idAt}
-use Rattle.posting.proofs.Lines.{clash}
 use Rattle.batch.specs.Actions.{seek, present, placeOf, isCancelled, idOf, liveAnswer, addAnswer, amendAnswer, cancelAnswer, lineOf, withLine, withCancelled, actionAnswer, actionFile}
 use Rattle.batch.specs.Journal.{zeros}
 use Rattle.batch.specs.History.{Action, Addition, Amendment, Cancellation, kindOf, bodyOf, hasId, isWithdrawn, withdrawn, replacedBy, withdrawnFor, isPresent, isCancelledThere, liveRule, recordsAfter, actionRule, printed, linesOf}
@@ -20,7 +20,7 @@ use Rattle.batch.proofs.Rows.{length-map, changed, map-one, some-at, no
 use Rattle.batch.proofs.PrintedLines.{Long, printed-long, printed-more, all-lines-long, lines-last, record-there, byte-there, line-replaced, bytes-changed}
 use Rattle.batch.proofs.Sheets.{Sheet, id-is, status-is, amends, cancels, kept-posting, sheet-step}
 
-long-of : (recs : List (List ℕ)) → Sheet recs → Long recs
+pub long-of : (recs : List (List ℕ)) → Sheet recs → Long recs
 long-of recs s = λ i h. s .each i h .long
 
 pub lines-long : (recs : List (List ℕ)) → Sheet recs → length (linesOf recs) ≡ length recs * 401
@@ -106,6 +106,20 @@ module _ (recs : List (List ℕ)) (s : Sheet recs) (t : List ℕ) where
       go (nowhere z none) = absent z (none-passes (hasId id) recs (λ i h. rw (← id-view i h) (none i h)))
       go (there k z h e) = at k z h (rw (← id-view k h) e)
 
+  -- where its record stands, of an identifier that is present
+  pub record Touched (id : List ℕ) : Type 0 where
+    pub place : ℕ
+    pub within : place < length recs
+    pub found : placeOf (linesOf recs ++ t) id (length recs) ≡ place
+    pub its : hasId id (getD recs place []) ≡ true
+
+  pub touched : (id : List ℕ) → isPresent recs id ≡ true → Touched id
+  touched id p = go (stands id)
+    where
+      go : Standing id → Touched id
+      go (absent z none) = absurd (clash p none)
+      go (at k z h e) = record { place = k; within = h; found = omega (arith, z); its = e }
+
   pub present-view : (id : List ℕ) → present (linesOf recs ++ t) id (length recs) ≡ isPresent recs id
   present-view id = go (stands id)
     where
@@ -156,29 +170,19 @@ module _ (n : ℕ) (recs : List (List ℕ)) (s : Sheet recs) (fits : length recs
 
   amended : (rec : List ℕ) → length rec ≡ 399 → isPresent recs (idOf rec) ≡ true
       → withLine (printed n (linesOf recs)) (placeOf (printed n (linesOf recs)) (idOf rec) (length recs)) rec ≡ linesOf (map (replacedBy rec) recs) ++ behind
-  amended rec long p = go (stands recs s behind (idOf rec))
-    where
-      go : Standing recs s behind (idOf rec)
-          → withLine (printed n (linesOf recs)) (placeOf (printed n (linesOf recs)) (idOf rec) (length recs)) rec ≡ linesOf (map (replacedBy rec) recs) ++ behind
-      go (absent z none) = absurd (clash p none)
-      go (at k z h e) =
-          let place : placeOf (printed n (linesOf recs)) (idOf rec) (length recs) ≡ k = omega (arith, z) in
-          ap (λ (j : ℕ). withLine (printed n (linesOf recs)) j rec) place
-          ∙ line-replaced recs behind k rec (long-of recs s) long h
-          ∙ ap (λ (others : List (List ℕ)). linesOf others ++ behind) (sym (changed-there recs s (idOf rec) k h e (λ old. rec)))
+  amended rec long p =
+      let m = touched recs s behind (idOf rec) p in
+      ap (λ (k : ℕ). withLine (printed n (linesOf recs)) k rec) (m .found)
+      ∙ line-replaced recs behind (m .place) rec (long-of recs s) long (m .within)
+      ∙ ap (λ (others : List (List ℕ)). linesOf others ++ behind) (sym (changed-there recs s (idOf rec) (m .place) (m .within) (m .its) (λ old. rec)))
 
   withdrew : (id : List ℕ) → isPresent recs id ≡ true
       → withCancelled (printed n (linesOf recs)) (placeOf (printed n (linesOf recs)) id (length recs)) ≡ linesOf (map (withdrawnFor id) recs) ++ behind
-  withdrew id p = go (stands recs s behind id)
-    where
-      go : Standing recs s behind id
-          → withCancelled (printed n (linesOf recs)) (placeOf (printed n (linesOf recs)) id (length recs)) ≡ linesOf (map (withdrawnFor id) recs) ++ behind
-      go (absent z none) = absurd (clash p none)
-      go (at k z h e) =
-          let place : placeOf (printed n (linesOf recs)) id (length recs) ≡ k = omega (arith, z) in
-          ap (λ (j : ℕ). withCancelled (printed n (linesOf recs)) j) place
-          ∙ bytes-changed recs behind k 340 48 341 32 (long-of recs s) (omega arith) (omega arith) h
-          ∙ ap (λ (others : List (List ℕ)). linesOf others ++ behind) (sym (changed-there recs s id k h e withdrawn))
+  withdrew id p =
+      let m = touched recs s behind id p in
+      ap (λ (k : ℕ). withCancelled (printed n (linesOf recs)) k) (m .found)
+      ∙ bytes-changed recs behind (m .place) 340 48 341 32 (long-of recs s) (omega arith) (omega arith) (m .within)
+      ∙ ap (λ (others : List (List ℕ)). linesOf others ++ behind) (sym (changed-there recs s id (m .place) (m .within) (m .its) withdrawn))
 
   pub file-view : (a : Action) → actionRule recs (n / 401) a .code ≡ 0
       → actionFile (printed n (linesOf recs)) (length recs) (kindOf a) (bodyOf a) ≡ printed n (linesOf (recordsAfter recs a))
@@ -189,5 +193,5 @@ module _ (n : ℕ) (recs : List (List ℕ)) (s : Sheet recs) (fits : length recs
       amended rec (kept-posting rec (p .0) .long) (p .1)
       ∙ same-rest (recordsAfter recs (Amendment rec)) (sheet-step recs (n / 401) (Amendment rec) s z) (length-map (replacedBy rec) recs)
   file-view (Cancellation id) z =
-      withdrew id (cancels recs (n / 401) id z)
+      withdrew id (cancels recs (n / 401) id z .0)
       ∙ same-rest (recordsAfter recs (Cancellation id)) (sheet-step recs (n / 401) (Cancellation id) s z) (length-map (withdrawnFor id) recs)

@@ -10,11 +10,12 @@ use borrow.Author.Tests.{eqb-true, eqb-false, eq-eqb, ne-eqb}
 use lib.Dec.{eqb}
 use lib.ListN.{length}
 use Rattle.text.specs.declared.Answer.{Answer}
+use Rattle.text.proofs.Booleans.{clash}
 use Rattle.record.specs.Table.{Rule}
 use Rattle.record.specs.Rules.{table, recordAnswer}
 use Rattle.record.proofs.Order.{Outcome, good, bad, record-outcome, codes-in-order}
 use Rattle.posting.specs.File.{recordAt, lineAnswer}
-use Rattle.posting.proofs.Lines.{Ended, Repeated, LineOutcome, ends-wrong, breaks-table, repeats-earlier, right, line-outcome, clash}
+use Rattle.posting.proofs.Lines.{Ended, Repeated, LineOutcome, ends-wrong, breaks-table, repeats-earlier, right, line-outcome}
 
 -- c is not in the list
 unfoldable pub lacks : ℕ → List ℕ → Bool

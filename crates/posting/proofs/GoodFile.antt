@@ -6,7 +6,8 @@ use mathlib.Core.Path.{_≡_, refl, sym, ap, _∙_}
 use mathlib.Core.Bool.{Bool, true, false, cond}
 use mathlib.Core.List.{List, [], _∷_, _++_, map}
 use native.Mathlib.Omega.{arith}
-use lib.ListN.{length, getD, length-append}
+use lib.ListN.{length, length-append}
+use Rattle.text.proofs.Booleans.{clash}
 use Rattle.layout.specs.Widths.{joined}
 use Rattle.layout.specs.Layout.{fieldOf}
 use Rattle.fields.specs.declared.MoneyReading.the-variants as Money
@@ -14,41 +15,17 @@ use Rattle.fields.specs.declared.StatusReading.{StatusReading}
 use Rattle.fields.specs.declared.StatusReading.the-variants as Status
 use Rattle.fields.specs.Amounts.{readMoney}
 use Rattle.fields.specs.Others.{readStatus}
-use Rattle.record.specs.Table.{Rule, placesFrom, anyCase, broken}
-use Rattle.record.specs.Readings.{whenOf, addressOf, contactOf, goodsOf, marksOf, setOf, tailOf, badMoney, badStatus}
-use Rattle.record.specs.Rules.{table, malformed}
+use Rattle.record.specs.Readings.{badMoney, badStatus}
+use Rattle.record.specs.Rules.{table}
 use Rattle.record.proofs.Order.{noneBroken, accepted-exactly as record-accepted-exactly}
+use Rattle.record.proofs.Status.{none-malformed}
 use Rattle.posting.specs.File.{recordAt, passed, totalsOver, recordsIn, fileAnswer}
-use Rattle.posting.proofs.Lines.{clash, line-right-exactly}
+use Rattle.posting.proofs.Lines.{line-right-exactly}
 use Rattle.posting.proofs.FirstBreak.{AllRight, no-break, outcome-exactly, accepted-exactly}
 use Rattle.posting.specs.Sums.{kept, isLive, isCancelled, live, cancelled, totalsOf}
 use Rattle.posting.proofs.RecordList.{upTo, kept-last, lineAt, lines, records, totals-are-sums, record-wide, line-is, records-tile}
 
--- ---- a field 2 to 26 of a record that keeps the table is not malformed
-no-flag : (bs : List Bool) (p k : ℕ) → anyCase (placesFrom p bs) ≡ false → getD bs k false ≡ false
-no-flag [] p k h = refl
-no-flag (true ∷ bs) p k h = absurd (clash refl h)
-no-flag (false ∷ bs) p zero h = refl
-no-flag (false ∷ bs) p (suc k) h = no-flag bs (suc p) k h
-
-second-kept : (r s : Rule) (rs : List Rule) → noneBroken (r ∷ s ∷ rs) ≡ true → broken s ≡ false
-unfolding noneBroken
-second-kept r s rs h = go (broken r) (broken s) h
-  where
-    go : (a b : Bool) → cond a false (cond b false (noneBroken rs)) ≡ true → b ≡ false
-    go true b e = absurd (clash e refl)
-    go false true e = absurd (clash e refl)
-    go false false e = refl
-
--- which of the fields 2 to 26 are malformed
-abbrev pub malformedIn : List ℕ → List Bool
-malformedIn rec = malformed false (whenOf rec) (addressOf rec) (contactOf rec) (goodsOf rec) (marksOf rec) (setOf rec) (tailOf rec)
-
-pub none-malformed : (rec : List ℕ) → noneBroken (table false rec) ≡ true → (k : ℕ) → getD (malformedIn rec) k false ≡ false
-unfolding table
-none-malformed rec h k = no-flag (malformedIn rec) 2 k (second-kept _ _ _ h)
-
--- nor is what the totals read of it
+-- ---- what the totals read of a record that keeps the table is well-formed
 pub record Readable (rec : List ℕ) : Type 0 where
   pub status : readStatus (fieldOf rec 19) ≡ Status.Malformed → ⊥
   pub cash : readMoney (fieldOf rec 16) ≡ Money.Malformed → ⊥
@@ -56,9 +33,9 @@ pub record Readable (rec : List ℕ) : Type 0 where
 
 pub readable : (rec : List ℕ) → noneBroken (table false rec) ≡ true → Readable rec
 readable rec h = record {
-  status = λ e. clash (ap (badStatus false) e) (none-malformed rec h 17);
-  cash = λ e. clash (ap badMoney e) (none-malformed rec h 14);
-  price = λ e. clash (ap badMoney e) (none-malformed rec h 15);
+  status = λ e. clash (ap (badStatus false) e) (none-malformed false rec h 17);
+  cash = λ e. clash (ap badMoney e) (none-malformed false rec h 14);
+  price = λ e. clash (ap badMoney e) (none-malformed false rec h 15);
 }
 
 -- ---- rows that are alike

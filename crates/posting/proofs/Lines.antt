@@ -13,6 +13,7 @@ use lib.ListN.{getD}
 use Rattle.text.specs.declared.Answer.{Answer}
 use Rattle.text.specs.Answers.{answer, accepted}
 use Rattle.text.specs.Lists.{sameBytes}
+use Rattle.text.proofs.Booleans.{clash}
 use Rattle.text.proofs.Lists.{same-exactly}
 use Rattle.record.specs.Columns.{orElse}
 use Rattle.record.specs.Rules.{recordAnswer}
@@ -31,9 +32,6 @@ pub record Repeated (file : List ℕ) (i n : ℕ) : Type 0 where
   pub same : idAt file earlier ≡ idAt file i
 
 -- ---- the tests decide them
-pub clash : {b : Bool} → b ≡ true → b ≡ false → ⊥
-clash t f = let z : _≡_ {A = ℕ} 0 1 = cc in omega arith
-
 both : (a b : ℕ) (x y : ℕ) → (eqb a x && eqb b y ≡ true) ↔ ((a ≡ x) × (b ≡ y))
 both a b x y = (go (eqb a x) refl (eqb b y) refl, λ p. rw (eq-eqb a x (p .0), eq-eqb b y (p .1)))
   where

@@ -17,18 +17,18 @@ use Rattle.fields.specs.declared.StatusReading.{StatusReading}
 use Rattle.fields.specs.declared.StatusReading.the-variants as Status
 use Rattle.fields.specs.Others.{readStatus}
 use Rattle.fields.proofs.OtherLaws.{live-exactly, cancelled-exactly}
-use Rattle.fields.proofs.ByteLaws.{clash}
 use Rattle.text.specs.Answers.{answer}
+use Rattle.text.proofs.Booleans.{clash}
 use Rattle.record.specs.Table.{Rule, placesFrom, anyCase, broken, verdict}
 use Rattle.record.specs.Readings.{whenOf, addressOf, contactOf, goodsOf, marksOf, setOf, tailOf, badStatus}
 use Rattle.record.specs.Rules.{malformed, givenOf, packOf, table, recordAnswer}
 use Rattle.record.proofs.Order.{noneBroken, accepted-exactly}
 
 -- ---- a part of a list, with one place outside it set
-pub part-set-before : {A : Type 0} (s : List A) (a w i : ℕ) (v : A) → i < a → take w (drop a (set s i v)) ≡ take w (drop a s)
+part-set-before : {A : Type 0} (s : List A) (a w i : ℕ) (v : A) → i < a → take w (drop a (set s i v)) ≡ take w (drop a s)
 part-set-before s a w i v h = ap (take w) (drop-set-lt a s i v h)
 
-pub part-set-behind : {A : Type 0} (s : List A) (a w i : ℕ) (v : A) → a + w ≤ i → take w (drop a (set s i v)) ≡ take w (drop a s)
+part-set-behind : {A : Type 0} (s : List A) (a w i : ℕ) (v : A) → a + w ≤ i → take w (drop a (set s i v)) ≡ take w (drop a s)
 part-set-behind s a w i v h =
     let there : a + (i - a) ≡ i = omega arith in
     let shifted : drop a (set s i v) ≡ set (drop a s) (i - a) v = rw there at (drop-set-add a s (i - a) v) in
@@ -84,17 +84,17 @@ withdrawn-status rec long =
     rw (eq-eqb (length (withdrawn rec)) 399 wide) bytes
 
 -- ---- two records that differ in the status alone, under either table
-pub status-only : (p q : Bool) (rec new : List ℕ) → ((n : ℕ) → (n ≡ 19 → ⊥) → fieldOf new n ≡ fieldOf rec n)
+status-only : (p q : Bool) (rec new : List ℕ) → ((n : ℕ) → (n ≡ 19 → ⊥) → fieldOf new n ≡ fieldOf rec n)
     → badStatus q (readStatus (fieldOf new 19)) ≡ badStatus p (readStatus (fieldOf rec 19)) → noneBroken (table q new) ≡ noneBroken (table p rec)
 unfolding table givenOf packOf
 status-only p q rec new same e =
     let other : (n : ℕ) → eqb n 19 ≡ false → fieldOf new n ≡ fieldOf rec n = λ n h. same n (eqb-false n 19 h) in
     rw (e, other 1 refl, other 2 refl, other 3 refl, other 4 refl, other 5 refl, other 6 refl, other 7 refl, other 8 refl, other 9 refl, other 10 refl, other 11 refl, other 12 refl, other 13 refl, other 14 refl, other 15 refl, other 16 refl, other 17 refl, other 18 refl, other 20 refl, other 21 refl, other 22 refl, other 23 refl, other 24 refl, other 25 refl, other 26 refl)
 
--- ---- a record that keeps a table has a status that it allows
+-- ---- a record that keeps a table has no malformed field, so a status that it allows
 no-flag : (bs : List Bool) (p k : ℕ) → anyCase (placesFrom p bs) ≡ false → getD bs k false ≡ false
 no-flag [] p k h = refl
-no-flag (true ∷ bs) p k h = absurd (clash true refl h)
+no-flag (true ∷ bs) p k h = absurd (clash refl h)
 no-flag (false ∷ bs) p zero h = refl
 no-flag (false ∷ bs) p (suc k) h = no-flag bs (suc p) k h
 
@@ -103,14 +103,20 @@ unfolding noneBroken
 second-kept r s rs h = go (broken r) (broken s) h
   where
     go : (a b : Bool) → cond a false (cond b false (noneBroken rs)) ≡ true → b ≡ false
-    go true b e = absurd (clash false e refl)
-    go false true e = absurd (clash false e refl)
+    go true b e = absurd (clash e refl)
+    go false true e = absurd (clash e refl)
     go false false e = refl
 
-pub status-allowed : (posting : Bool) (rec : List ℕ) → noneBroken (table posting rec) ≡ true → badStatus posting (readStatus (fieldOf rec 19)) ≡ false
+-- which of the fields 2 to 26 are malformed
+abbrev pub malformedIn : Bool → List ℕ → List Bool
+malformedIn posting rec = malformed posting (whenOf rec) (addressOf rec) (contactOf rec) (goodsOf rec) (marksOf rec) (setOf rec) (tailOf rec)
+
+pub none-malformed : (posting : Bool) (rec : List ℕ) → noneBroken (table posting rec) ≡ true → (k : ℕ) → getD (malformedIn posting rec) k false ≡ false
 unfolding table
-status-allowed posting rec h =
-    no-flag (malformed posting (whenOf rec) (addressOf rec) (contactOf rec) (goodsOf rec) (marksOf rec) (setOf rec) (tailOf rec)) 2 17 (second-kept _ _ _ h)
+none-malformed posting rec h k = no-flag (malformedIn posting rec) 2 k (second-kept _ _ _ h)
+
+status-allowed : (posting : Bool) (rec : List ℕ) → noneBroken (table posting rec) ≡ true → badStatus posting (readStatus (fieldOf rec 19)) ≡ false
+status-allowed posting rec h = none-malformed posting rec h 17
 
 -- ---- a record that may be posted
 posting-long : (rec : List ℕ) → recordAnswer true rec .code ≡ 0 → length rec ≡ 399
@@ -134,8 +140,8 @@ posting-passes rec z =
       live-exactly (fieldOf rec 19) .0 e,
       accepted-exactly false rec long .1 (status-only true false rec rec (λ n h. refl) (ap (badStatus false) e ∙ sym (ap (badStatus true) e)) ∙ kept),
     )
-    go Status.Cancelled e long kept a = absurd (clash true refl a)
-    go Status.Malformed e long kept a = absurd (clash true refl a)
+    go Status.Cancelled e long kept a = absurd (clash refl a)
+    go Status.Malformed e long kept a = absurd (clash refl a)
 
 -- ---- a record whose status is set to "0 "
 pub withdrawn-passes : (rec : List ℕ) → length rec ≡ 399 → recordAnswer false rec .code ≡ 0 → recordAnswer false (set (set rec 340 48) 341 32) .code ≡ 0

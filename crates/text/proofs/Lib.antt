@@ -1,3 +1,4 @@
+pub mod Booleans
 pub mod Ranges
 pub mod Lists
 pub mod Loops
