@@ -18,7 +18,6 @@ use Rattle.batch.specs.Actions.{present, placeOf, isCancelled, idOf, liv
 use Rattle.batch.specs.Journal.{bodyLength, entryLength}
 use Rattle.batch.specs.Batch.{Batch, Call, Open, Add, Amend, Cancel, Undo, rightLengths, sound, ready, entryAnswer, workAnswer, answerTo}
 use Rattle.batch.specs.History.{GoodLengths, MadeBySome}
-use Rattle.batch.proofs.JournalWays.{clash}
 use Rattle.batch.proofs.Parsing.{by-cond}
 use Rattle.batch.proofs.Exactly.{sound-exactly}
 use Rattle.batch.proofs.History.{lengths-exactly}

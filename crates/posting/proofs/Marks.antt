@@ -16,7 +16,7 @@ use Rattle.fields.proofs.Bits.{with-fits, bit-with}
 use Rattle.fields.proofs.ServiceWays.{shifted}
 use Rattle.posting.specs.File.{idAt, repeats}
 use Rattle.posting.specs.Marks.{markOf, isMarked, Marked}
-use Rattle.posting.proofs.Lines.{clash}
+use Rattle.text.proofs.Booleans.{clash}
 use Rattle.posting.proofs.Ways.{from-start}
 
 -- ---- mark_of
