@@ -2,13 +2,12 @@
  * The library's file check beside the reference in C: first that both answer judged files as judged, then the time
  * of each on good files of several sizes.
  */
-#define _POSIX_C_SOURCE 199309L /* for clock_gettime */
+#define _POSIX_C_SOURCE 199309L /* for times.h */
 #include "fuganorezi.h"
 #include "good_file.h"
 #include "judged.h"
 #include "reference.h"
-
-#include <time.h>
+#include "times.h"
 
 enum { MOST_RECORDS = 999, RUNS = 201, NUMBERS = 7 };
 
@@ -62,14 +61,6 @@ static void compare_on_good_file(uint8_t *file, unsigned records)
 
 /* Times */
 
-static uint64_t now_in_nanoseconds(void)
-{
-    struct timespec now;
-    if (clock_gettime(CLOCK_MONOTONIC, &now) != 0)
-        give_up("clock_gettime", "no clock");
-    return (uint64_t)now.tv_sec * 1000000000 + (uint64_t)now.tv_nsec;
-}
-
 static uint64_t time_of_calls(file_check *check, const uint8_t *file, unsigned records, unsigned long calls)
 {
     uint64_t out[NUMBERS];
@@ -90,18 +81,6 @@ static unsigned long calls_for(const uint8_t *file, unsigned records)
     return calls;
 }
 
-static int by_size(const void *left, const void *right)
-{
-    uint64_t a = *(const uint64_t *)left, b = *(const uint64_t *)right;
-    return (a > b) - (a < b);
-}
-
-static double median(uint64_t times[RUNS])
-{
-    qsort(times, RUNS, sizeof times[0], by_size);
-    return (double)times[RUNS / 2];
-}
-
 /* The runs take turns, so that what else the machine does falls on both. */
 static void print_times(const uint8_t *file, unsigned records)
 {
@@ -111,7 +90,8 @@ static void print_times(const uint8_t *file, unsigned records)
         library[i] = time_of_calls(fuganorezi_file_check, file, records, calls);
         reference[i] = time_of_calls(reference_file_check, file, records, calls);
     }
-    double of_library = median(library) / 1000 / (double)calls, of_reference = median(reference) / 1000 / (double)calls;
+    double of_library = median(library, RUNS) / 1000 / (double)calls;
+    double of_reference = median(reference, RUNS) / 1000 / (double)calls;
     printf("%7u %14.2f %14.2f %12.2f\n", records, of_library, of_reference, of_library / of_reference);
 }
 

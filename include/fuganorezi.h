@@ -106,8 +106,8 @@ typedef struct fuganorezi_counts {
  * other. `counts` and `place` are not NULL.
  *
  * Each call but opening first makes the file anew from the whole journal and compares, so it takes
- * the longer the more the journal has. For this it needs stack: less than 400 KiB, whatever the
- * length of the buffers.
+ * the longer the more the journal has. For this it needs stack: less than 400 KiB (409,600 bytes)
+ * as compiled so far, whatever the length of the buffers; this is tested, not proved.
  *
  * The codes, in the order in which they are looked for. The place is 0 where none is given.
  *

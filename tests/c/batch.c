@@ -196,18 +196,13 @@ static struct batch open_batch(size_t file_length, size_t journal_length)
     return b;
 }
 
-/* Records of our own: number 1 has service 41, so cash on delivery and a price. */
-
-static void posting(uint8_t record[GOOD_STEP], unsigned number)
-{
-    put_good_posting(record, number);
-}
+/* Records of our own */
 
 /* The same consignment with another weight, so that each version differs. */
 static void posting_version(uint8_t record[GOOD_STEP], unsigned number, unsigned version)
 {
     char weight[16];
-    posting(record, number);
+    put_good_posting(record, number);
     snprintf(weight, sizeof weight, "%2u.%03u", 1 + version / 1000 % 99, version % 1000);
     put_field(record, 15, weight);
 }
@@ -215,7 +210,7 @@ static void posting_version(uint8_t record[GOOD_STEP], unsigned number, unsigned
 static void add_posting(struct batch *b, unsigned number)
 {
     uint8_t record[GOOD_STEP];
-    posting(record, number);
+    put_good_posting(record, number);
     ask_accepted("add", number, b, ADD, record, RECORD);
 }
 
@@ -226,7 +221,7 @@ static void ask_example_15(void)
     static const char entry[] = "\x11\x00\x02\x00" "BO5412345671F";
     struct batch b = open_batch(2 * GOOD_STEP, 2 * ADDITION);
     uint8_t record[GOOD_STEP];
-    posting(record, 1);
+    put_good_posting(record, 1);
     put_field(record, 1, "BO5412345671F");
     ask_accepted("example 15, add", 0, &b, ADD, record, RECORD);
     ask_accepted("example 15, cancel", 0, &b, CANCEL, (const uint8_t *)"BO5412345671F", IDENTIFIER);
@@ -293,7 +288,7 @@ static void ask_all_spoiled(struct batch *b)
 static void ask_refused_record(struct batch *b, unsigned number, unsigned field, const char *text, uint64_t code)
 {
     uint8_t record[GOOD_STEP];
-    posting(record, number);
+    put_good_posting(record, number);
     put_field(record, field, text);
     ask_refused("record, add", field, b, ADD, record, RECORD, code, field);
     ask_refused("record, amend", field, b, AMEND, record, RECORD, code, field);
@@ -307,7 +302,7 @@ static void ask_refusals(void)
     ask_refused("nothing to undo", 0, &b, UNDO, NULL, 0, 234, 0);
     add_posting(&b, 1);
     add_posting(&b, 3);
-    posting(record, 3);
+    put_good_posting(record, 3);
     ask_accepted("cancel", 3, &b, CANCEL, record, IDENTIFIER);
     ask_all_spoiled(&b);
     ask_refused("no record", 0, &b, ADD, NULL, 0, 236, 0);
@@ -324,11 +319,11 @@ static void ask_refusals(void)
     ask_refused("there already", 0, &b, ADD, record, RECORD, 2, 1);
     ask_refused("cancelled", 0, &b, AMEND, record, RECORD, 233, 0);
     ask_refused("cancelled", 1, &b, CANCEL, record, IDENTIFIER, 233, 0);
-    posting(record, 5);
+    put_good_posting(record, 5);
     ask_refused("not there", 0, &b, AMEND, record, RECORD, 232, 0);
     ask_refused("not there", 1, &b, CANCEL, record, IDENTIFIER, 232, 0);
     ask_refused("no room for an entry", 0, &b, ADD, record, RECORD, 231, 0);
-    posting(record, 1);
+    put_good_posting(record, 1);
     ask_refused("no room for an entry", 1, &b, AMEND, record, RECORD, 231, 0);
     ask_accepted("room for a cancellation", 0, &b, CANCEL, record, IDENTIFIER);
     expect_good_file("refusals", &b);
@@ -442,9 +437,9 @@ static void ask_full_file(void)
         expect("full file, price", number, b.counts->price, price);
     }
     expect_good_file("full file", &b);
-    posting(record, MOST_RECORDS + 1);
+    put_good_posting(record, MOST_RECORDS + 1);
     ask_refused("full file", MOST_RECORDS, &b, ADD, record, RECORD, 230, 0);
-    posting(record, MOST_RECORDS);
+    put_good_posting(record, MOST_RECORDS);
     ask_refused("full file, there already", MOST_RECORDS, &b, ADD, record, RECORD, 2, 1);
     undo_all("full file undone", &b);
 }
@@ -465,9 +460,9 @@ static void ask_full_journal(void)
     expect("full journal, version", version, memcmp(b.file + version % 2 * GOOD_STEP, record, RECORD) == 0, 1);
     expect_good_file("full journal", &b);
     ask_refused("full journal", 0, &b, AMEND, record, RECORD, 231, 0);
-    posting(record, 3);
+    put_good_posting(record, 3);
     ask_refused("full journal", 1, &b, ADD, record, RECORD, 231, 0);
-    posting(record, 1);
+    put_good_posting(record, 1);
     ask_accepted("full journal", 2, &b, CANCEL, record, IDENTIFIER);
     ask_refused("full journal", 3, &b, CANCEL, record, IDENTIFIER, 233, 0);
     undo_all("full journal undone", &b);
