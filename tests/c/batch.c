@@ -17,6 +17,7 @@ enum {
     MOST_RECORDS = 999,
     LONGEST_FILE = MOST_RECORDS * GOOD_STEP,
     LONGEST_JOURNAL = 1048576,
+    LONGEST_BYTES = 65536, /* of a record or identifier: far more than either has */
     STACK = 400 * 1024,
     COUNTS = 6,
     LINE = 2 + COUNTS + 2
@@ -42,7 +43,7 @@ static void make_memory(void)
     file_memory = fenced_memory(LONGEST_FILE + GOOD_STEP);
     journal_memory = fenced_memory(LONGEST_JOURNAL + 1);
     counts_memory = fenced_memory(sizeof(fuganorezi_counts));
-    bytes_memory = fenced_memory(1000);
+    bytes_memory = fenced_memory(LONGEST_BYTES);
     stack_memory = fenced_memory(STACK);
 }
 
@@ -349,13 +350,22 @@ static uint64_t eight_bytes(const uint8_t bytes[8])
     return four_bytes(bytes) | (uint64_t)four_bytes(bytes + 4) << 32;
 }
 
+static void set_byte(uint8_t *buffer, size_t length, const uint8_t bytes[5])
+{
+    size_t at = four_bytes(bytes);
+    if (at < length)
+        buffer[at] = bytes[4];
+}
+
 /* Changes something behind the batch's back. */
 static void spoil(struct batch *b, enum op op, const uint8_t *bytes)
 {
-    if (op == SPOIL_COUNT)
-        *count_of(b->counts, bytes[0]) = eight_bytes(bytes + 1);
+    if (op == SPOIL_FILE)
+        set_byte(b->file, b->file_length, bytes);
+    else if (op == SPOIL_JOURNAL)
+        set_byte(b->journal, b->journal_length, bytes);
     else
-        (op == SPOIL_FILE ? b->file : b->journal)[four_bytes(bytes)] = bytes[4];
+        *count_of(b->counts, bytes[0]) = eight_bytes(bytes + 1);
     b->code = b->place = 0;
 }
 
@@ -382,7 +392,7 @@ static void ask_history(const char *what, unsigned long *number, const struct it
         if (op >= SPOIL_FILE)
             spoil(&b, op, bytes);
         else
-            ask(what, *number, &b, op, bytes, length);
+            ask(what, *number, &b, op, bytes, length < LONGEST_BYTES ? length : LONGEST_BYTES);
         read_line(lines, lines_path, expected, LINE);
         expect_line(what, *number, &b, expected);
         at += 5 + length;
