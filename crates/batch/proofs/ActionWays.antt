@@ -2,19 +2,18 @@
 -- Assumes nothing.
 use Prim.Native.Nat.{ℕ, zero, suc, _+_, _-_, _*_, _≤_, _<_}
 use mathlib.Core.Path.{_≡_, refl, sym, ap, _∙_}
-use mathlib.Core.Bool.{Bool, true, false, cond, not, _&&_, _||_}
-use mathlib.Core.List.{List, [], _∷_, _++_, append-assoc, append-nil}
+use mathlib.Core.Bool.{Bool, true, false, cond}
+use mathlib.Core.List.{List, [], _∷_, _++_, append-assoc}
 use native.Mathlib.Nat.{add-sub-cancel-left}
 use native.Mathlib.Numerals.{add-one}
 use native.Mathlib.Omega.{arith}
 use borrow.Author.Tests.{eq-eqb, ne-eqb, le-leb, lt-leb}
 use borrow.Rule.Slice.PartMut.{putMid}
-use lib.Dec.{eqb, leb}
-use lib.ListN.{length, getD, take, drop, set, length-set, length-append, length-drop}
+use lib.ListN.{length, getD, take, drop, set, length-append, length-drop}
 use lib.Seq.{take-suc, take-all, drop-cons, set-at, append-snoc, length-take-le}
 use Rattle.text.specs.declared.Answer.{Answer}
 use Rattle.text.specs.Answers.{answer, accepted}
-use Rattle.text.specs.Lists.{sameBytes, overlay}
+use Rattle.text.specs.Lists.{sameBytes}
 use Rattle.text.proofs.Lists.{spelled, put-is}
 use Rattle.ident.specs.Identifier.{rightId}
 use Rattle.ident.specs.Calls.{Checked}
@@ -22,7 +21,7 @@ use Rattle.layout.specs.Layout.{fieldOf}
 use Rattle.record.specs.Columns.{orElse}
 use Rattle.record.specs.Rules.{recordAnswer}
 use Rattle.posting.specs.File.{idAt}
-use Rattle.batch.specs.Actions.{seek, present, placeOf, isCancelled, idOf, liveAnswer, addAnswer, amendAnswer, cancelAnswer, lineOf, withLine, actionAnswer, actionFile}
+use Rattle.batch.specs.Actions.{seek, liveAnswer, addAnswer, amendAnswer, cancelAnswer, lineOf, withLine, actionAnswer}
 
 -- ---- seek: one record down
 seek-down : (file id : List ℕ) (j : ℕ) → 0 < j → seek file id j ≡ cond (sameBytes (idAt file (j - 1)) id) j (seek file id (j - 1))

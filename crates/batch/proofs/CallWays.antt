@@ -1,9 +1,9 @@
 -- The calls: each way out of the functions.
 -- Assumes nothing.
-use Prim.Native.Nat.{ℕ, _+_, _-_, _*_, _%_, _≤_, _<_}
+use Prim.Native.Nat.{ℕ, _+_, _-_, _%_, _≤_, _<_}
 use mathlib.Core.Path.{_≡_, refl, sym, ap, _∙_}
 use mathlib.Core.Bool.{Bool, true, false, cond, not, _&&_, and-eq-true-iff}
-use mathlib.Core.List.{List, [], _∷_, _++_}
+use mathlib.Core.List.{List}
 use native.Mathlib.Omega.{arith}
 use borrow.Author.Tests.{eq-eqb, ne-eqb, le-leb, lt-leb, leb-true, not-true, not-false}
 use lib.Dec.{eqb, leb}
@@ -21,10 +21,10 @@ use Rattle.batch.specs.declared.Gate.{Gate}
 use Rattle.batch.specs.declared.Outcome.{Outcome}
 use Rattle.batch.specs.declared.Walk.{Walk}
 use Rattle.batch.specs.Actions.{actionAnswer, actionFile}
-use Rattle.batch.specs.Journal.{bodyLength, entryLength, entry, zeros, rebuilt}
+use Rattle.batch.specs.Journal.{bodyLength, entry, zeros, rebuilt}
 use Rattle.batch.specs.Duties.{Acceptable, Replayed}
-use Rattle.batch.specs.Batch.{Batch, batchOf, Call, Open, Add, Amend, Cancel, Undo, rightLengths, sound, ready, entryAnswer, workAnswer, answerTo, entered, undone, latest, after, done, kept, noCounts, Called}
-use Rattle.batch.specs.Guards.{Ready, Guarded, Countable, countsAfter, Passed, Worked}
+use Rattle.batch.specs.Batch.{Batch, batchOf, Call, Open, Undo, rightLengths, sound, ready, entryAnswer, workAnswer, answerTo, entered, undone, latest, after, done, kept, noCounts, Called}
+use Rattle.batch.specs.Guards.{Guarded, Countable, countsAfter, Passed, Worked}
 use Rattle.batch.proofs.ReplayWays.{small-so-far}
 
 -- ---- enter

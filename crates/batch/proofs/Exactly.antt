@@ -1,29 +1,27 @@
 -- 237 exactly: a batch passes the test if and only if some list of actions, each acceptable in its turn, makes it; and the list is the only one.
 -- Assumes nothing.
-use Prim.Native.Nat.{ℕ, zero, suc, _+_, _-_, _*_, _/_, _≤_, _<_}
+use Prim.Native.Nat.{ℕ, zero, suc, _+_, _-_, _*_, _/_, _≤_}
 use mathlib.Core.Path.{_≡_, refl, sym, ap, _∙_, subst}
 use mathlib.Core.Logic.{_↔_}
-use mathlib.Core.Bool.{Bool, true, false, cond, _&&_, and-eq-true-iff}
-use mathlib.Core.List.{List, [], _∷_, _++_, map}
-use native.Mathlib.Nat.{sub-zero, zero-add}
+use mathlib.Core.Bool.{true, and-eq-true-iff}
+use mathlib.Core.List.{List, [], _∷_, _++_}
+use native.Mathlib.Nat.{sub-zero}
 use native.Mathlib.Omega.{arith}
-use borrow.Author.Tests.{eq-eqb, ne-eqb, eqb-true, eqb-false, leb-true, le-leb}
-use lib.Dec.{eqb, leb, ltb}
-use lib.ListN.{length, getD, take, drop, length-append, length-drop, length-replicate, take-append-drop}
+use borrow.Author.Tests.{eq-eqb, eqb-true, eqb-false, leb-true, le-leb}
+use lib.Dec.{eqb, leb}
+use lib.ListN.{length, take, drop, length-append, length-drop, take-append-drop}
 use lib.Seq.{take-append-seam, drop-append-seam, length-take-le}
 use Rattle.text.specs.declared.Answer.{Answer}
-use Rattle.text.specs.Answers.{answer, accepted}
+use Rattle.text.specs.Answers.{accepted}
 use Rattle.text.specs.Bytes.{every}
-use Rattle.text.specs.Lists.{sameBytes}
 use Rattle.text.proofs.Lists.{same-exactly, same-refl}
 use Rattle.record.specs.Columns.{orElse}
 use Rattle.posting.specs.declared.Totals.{Totals}
 use Rattle.posting.specs.File.{totalsOver}
 use Rattle.posting.specs.Sums.{totalsOf}
-use Rattle.batch.specs.declared.Counts.{Counts}
 use Rattle.batch.specs.Journal.{bodyLength, entryLength, kindAt, bodyAt, Run, runOf, replayFrom, zeros, rebuilt}
 use Rattle.batch.specs.Batch.{Batch, batchOf, countsOf, isZero, sameTotals, sound}
-use Rattle.batch.specs.History.{Action, Addition, Amendment, Cancellation, callOf, kindOf, bodyOf, recordsAfter, recordsFrom, recordsOf, actionRule, entryRule, ruleFor, rules, printed, linesOf, entryOf, entriesOf, made, InTurnBehind, InTurn, MadeBySome}
+use Rattle.batch.specs.History.{Action, Addition, Amendment, Cancellation, callOf, kindOf, bodyOf, recordsAfter, recordsOf, actionRule, entryRule, ruleFor, rules, printed, linesOf, entryOf, entriesOf, made, InTurnBehind, InTurn, MadeBySome}
 use Rattle.batch.proofs.GuardWays.{totals-same}
 use Rattle.batch.proofs.PrintedLines.{printed-long}
 use Rattle.batch.proofs.Sheets.{Sheet, sheet-none}
@@ -86,9 +84,6 @@ entry-accepted n recs room a ok h =
 pub record Fitting (n : ℕ) (recs : List (List ℕ)) (room : ℕ) (a : Action) : Type 0 where
   pub accepts : Accepts n recs a
   pub fits : length (entryOf a) ≤ room
-
-no-code : (k : ℕ) → (k ≡ 0 → ⊥) → {A : Type 0} → k ≡ 0 → A
-no-code k n z = absurd (n z)
 
 pub accepted-entry : (n : ℕ) (recs : List (List ℕ)) (room : ℕ) (a : Action) → entryRule recs (n / 401) room a .code ≡ 0 → Fitting n recs room a
 unfolding entryRule orElse

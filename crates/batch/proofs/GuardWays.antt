@@ -1,32 +1,29 @@
 -- The test of the state, and writing entries: each way out of the functions.
 -- Assumes nothing.
-use Prim.Native.Nat.{ℕ, zero, suc, _+_, _-_, _*_, _%_, _≤_, _<_}
+use Prim.Native.Nat.{ℕ, _+_, _-_, _*_, _%_, _≤_, _<_}
 use mathlib.Core.Path.{_≡_, refl, sym, ap, _∙_}
 use mathlib.Core.Bool.{Bool, true, false, cond, not, _&&_, and-eq-true-iff}
 use mathlib.Core.List.{List, [], _∷_, _++_, append-nil}
-use native.Mathlib.Nat.{add-sub-cancel-left}
 use native.Mathlib.Omega.{arith}
 use borrow.Author.Tests.{eq-eqb, ne-eqb, le-leb, lt-leb, leb-true, eqb-true, not-true, not-false}
 use borrow.Rule.Slice.PartMut.{putMid}
 use lib.Dec.{eqb, leb}
-use lib.ListN.{length, getD, take, drop, set, replicate, length-append, length-replicate, length-take, drop-of-length-le}
+use lib.ListN.{length, getD, take, drop, set, replicate, length-replicate, drop-of-length-le}
 use lib.Seq.{take-all, length-take-le}
-use Rattle.text.specs.declared.Answer.{Answer}
 use Rattle.text.specs.Answers.{answer, accepted}
 use Rattle.text.specs.Bytes.{every}
 use Rattle.text.specs.Lists.{sameBytes, overlay}
 use Rattle.text.proofs.Lists.{spelled, put-is}
 use Rattle.text.proofs.Booleans.{clash}
-use Rattle.fields.specs.declared.Hellers.{Hellers}
 use Rattle.posting.specs.declared.Totals.{Totals}
 use Rattle.posting.specs.File.{totalsOver}
 use Rattle.batch.specs.declared.Counts.{Counts}
 use Rattle.batch.specs.declared.Verdict.{Verdict}
 use Rattle.batch.specs.declared.Walk.{Walk}
-use Rattle.batch.specs.Journal.{head, entry, rebuilt, Run}
+use Rattle.batch.specs.Journal.{head, entry, rebuilt}
 use Rattle.batch.specs.Duties.{Replayed}
-use Rattle.batch.specs.Batch.{Batch, batchOf, isZero, sameTotals, sound, rightLengths}
-use Rattle.batch.specs.Guards.{Ready, Verified, Guarded}
+use Rattle.batch.specs.Batch.{batchOf, isZero, sameTotals, sound, rightLengths}
+use Rattle.batch.specs.Guards.{Verified, Guarded}
 
 -- totals whose numbers are the same
 record-of : (l k d q : ℕ) → Totals

@@ -2,21 +2,20 @@
 -- Assumes nothing.
 use Prim.Native.Nat.{ℕ, _%_}
 use mathlib.Core.Path.{_≡_, refl, sym, ap, _∙_, subst}
-use mathlib.Core.Bool.{Bool, true, false, cond, _&&_, and-eq-true-iff}
+use mathlib.Core.Bool.{true, _&&_, and-eq-true-iff}
 use mathlib.Core.Logic.{_↔_}
 use mathlib.Core.List.{List, [], _∷_, _++_, map, append-assoc, append-nil}
 use native.Mathlib.Omega.{arith}
 use borrow.Author.Tests.{eq-eqb, eqb-true, leb-true, le-leb}
 use lib.Dec.{eqb, leb}
-use lib.ListN.{length, take, drop}
+use lib.ListN.{length}
 use Rattle.text.specs.declared.Answer.{Answer}
-use Rattle.text.specs.Answers.{answer, accepted}
-use Rattle.batch.specs.Journal.{zeros}
-use Rattle.batch.specs.Batch.{Batch, batchOf, noCounts, Call, Open, Add, Amend, Cancel, Undo, rightLengths, sound, ready, answerTo, after}
+use Rattle.text.specs.Answers.{accepted}
+use Rattle.batch.specs.Batch.{Batch, Call, Open, Undo, rightLengths, sound, ready, answerTo, after}
 use Rattle.batch.specs.History.{Action, Addition, Amendment, Cancellation, callOf, undoRule, rules, made, InTurnBehind, InTurn, run, answersOf, withoutLatest, standingAfter, standingFrom, standing, GoodLengths, History, Performed, Undoes}
 use Rattle.batch.proofs.Parsing.{by-cond}
-use Rattle.batch.proofs.Exactly.{Stands, stands-exactly, Found, found}
-use Rattle.batch.proofs.Turning.{answered-by-rules, Taken, none-stands, opening, turned}
+use Rattle.batch.proofs.Exactly.{Stands, stands-exactly, found}
+use Rattle.batch.proofs.Turning.{answered-by-rules, Taken, none-stands, opening, listAfter, turned}
 
 -- ---- from any list that stands
 module _ (n m : ℕ) (good : rightLengths n m ≡ true) where
@@ -24,9 +23,8 @@ module _ (n m : ℕ) (good : rightLengths n m ≡ true) where
   runs [] xs st = record { is = refl; stands = st }
   runs (call ∷ calls) xs st =
       let t = turned n m good xs st call in
-      let ys : List Action = cond (eqb (answerTo (made n m xs) call .code) 0) (standingAfter xs call) xs in
-      subst (λ (b : Batch). Taken n m (run b calls) (standingFrom (cond (eqb (answerTo (made n m xs) call .code) 0) (standingAfter xs call) xs) calls (answersOf b calls))) (sym (t .is))
-      (runs calls (cond (eqb (answerTo (made n m xs) call .code) 0) (standingAfter xs call) xs) (t .stands))
+      subst (λ (b : Batch). Taken n m (run b calls) (standingFrom (listAfter n m xs call) calls (answersOf b calls))) (sym (t .is))
+      (runs calls (listAfter n m xs call) (t .stands))
 
 -- ---- what a list makes is what performing it makes, each call answering 0
 call-stands : (xs : List Action) (a : Action) → standingAfter xs (callOf a) ≡ xs ++ a ∷ []
@@ -35,13 +33,16 @@ call-stands xs (Amendment rec) = refl
 call-stands xs (Cancellation id) = refl
 
 module _ (n m : ℕ) (good : rightLengths n m ≡ true) where
+  action-taken : (xs : List Action) (a : Action) → Stands n m xs → answerTo (made n m xs) (callOf a) .code ≡ 0 → Taken n m (after (made n m xs) (callOf a)) (xs ++ a ∷ [])
+  action-taken xs a st z =
+      let list : listAfter n m xs (callOf a) ≡ xs ++ a ∷ [] = rw (eq-eqb (answerTo (made n m xs) (callOf a) .code) 0 z) (call-stands xs a) in
+      subst (Taken n m (after (made n m xs) (callOf a))) list (turned n m good xs st (callOf a))
+
   perform : (before xs : List Action) → Stands n m before → InTurnBehind n m before xs → Performed n m (made n m before) xs (before ++ xs)
   perform before [] st t = record { leaves = ap (made n m) (sym (append-nil before)); answers = refl }
   perform before (a ∷ xs) st t =
       let met : answerTo (made n m before) (callOf a) ≡ accepted = answered-by-rules n m good before st (callOf a) ∙ t .0 in
-      let code : answerTo (made n m before) (callOf a) .code ≡ 0 = ap (λ (r : Answer). r .code) met in
-      let next : cond (eqb (answerTo (made n m before) (callOf a) .code) 0) (standingAfter before (callOf a)) before ≡ before ++ a ∷ [] = rw (eq-eqb (answerTo (made n m before) (callOf a) .code) 0 code) (call-stands before a) in
-      let k : Taken n m (after (made n m before) (callOf a)) (before ++ a ∷ []) = subst (Taken n m (after (made n m before) (callOf a))) next (turned n m good before st (callOf a)) in
+      let k = action-taken before a st (ap (λ (r : Answer). r .code) met) in
       let i = perform (before ++ a ∷ []) xs (k .stands) (t .1) in
       record {
         leaves = ap (λ (b : Batch). run b (map callOf xs)) (k .is) ∙ i .leaves ∙ ap (made n m) (append-assoc before (a ∷ []) xs);
@@ -129,10 +130,9 @@ accepted-passes b a =
 undoes : (n m : ℕ) → rightLengths n m ≡ true → (xs : List Action) (a : Action) → Stands n m xs → answerTo (made n m xs) (callOf a) .code ≡ 0 → Undoes (made n m xs) (after (made n m xs) (callOf a))
 unfolding rules
 undoes n m good xs a st q =
-    let next : cond (eqb (answerTo (made n m xs) (callOf a) .code) 0) (standingAfter xs (callOf a)) xs ≡ xs ++ a ∷ [] = rw (eq-eqb (answerTo (made n m xs) (callOf a) .code) 0 q) (call-stands xs a) in
-    let k : Taken n m (after (made n m xs) (callOf a)) (xs ++ a ∷ []) = subst (Taken n m (after (made n m xs) (callOf a))) next (turned n m good xs st (callOf a)) in
+    let k = action-taken n m good xs a st q in
     let met : answerTo (made n m (xs ++ a ∷ [])) Undo ≡ accepted = answered-by-rules n m good (xs ++ a ∷ []) (k .stands) Undo ∙ some-stands xs a in
-    let back : cond (eqb (answerTo (made n m (xs ++ a ∷ [])) Undo .code) 0) (withoutLatest (xs ++ a ∷ [])) (xs ++ a ∷ []) ≡ xs = rw met (without-latest xs a) in
+    let back : listAfter n m (xs ++ a ∷ []) Undo ≡ xs = rw met (without-latest xs a) in
     subst (λ (x : Batch). Undoes (made n m xs) x) (sym (k .is))
     record { answers = met; back = turned n m good (xs ++ a ∷ []) (k .stands) Undo .is ∙ ap (made n m) back }
 

@@ -1,24 +1,22 @@
 -- A replay that ends well has read a list of actions, each acceptable in its turn: its bytes are what the list prints, its file what the list makes.
 -- Assumes nothing.
-use Prim.Native.Nat.{ℕ, zero, suc, _+_, _-_, _*_, _/_, _≤_, _<_}
+use Prim.Native.Nat.{ℕ, zero, suc, _+_, _-_, _*_, _/_, _≤_}
 use mathlib.Core.Path.{_≡_, refl, sym, ap, _∙_, subst}
 use mathlib.Core.Bool.{Bool, true, false, cond, _&&_, and-eq-true-iff}
-use mathlib.Core.List.{List, [], _∷_, _++_, map}
+use mathlib.Core.List.{List, [], _∷_, _++_}
 use native.Mathlib.Omega.{arith}
-use borrow.Author.Tests.{eq-eqb, ne-eqb, eqb-true, eqb-false, ltb-true, ltb-false, leb-true}
+use borrow.Author.Tests.{eqb-true, eqb-false, ltb-false, leb-true}
 use lib.Dec.{eqb, leb, ltb}
-use lib.ListN.{length, getD, take, drop, length-append, length-drop}
+use lib.ListN.{length, getD, take, drop, length-drop}
 use lib.Seq.{take-add, drop-drop, length-take-le}
-use Rattle.text.specs.declared.Answer.{Answer}
 use Rattle.text.proofs.Lists.{step}
 use Rattle.text.proofs.Booleans.{clash}
-use Rattle.layout.specs.Widths.{joined}
-use Rattle.batch.specs.Actions.{actionAnswer, actionFile, actionHeld}
-use Rattle.batch.specs.Journal.{bodyLength, entryLength, entry, head, headStands, startsEntry, kindAt, bodyAt, Run, runOf, stepAs, stepOf, replayFrom, zeros, rebuilt}
-use Rattle.batch.specs.History.{Action, Addition, Amendment, Cancellation, kindOf, bodyOf, recordsAfter, recordsFrom, recordsOf, actionRule, printed, linesOf, entryOf, entriesOf}
-use Rattle.batch.proofs.Sheets.{Kept, Sheet, sheet-none, sheet-step, held-step, fits-step}
-use Rattle.batch.proofs.Views.{lines-long, answer-view, file-view}
-use Rattle.batch.proofs.Printing.{Accepts, Ok, entry-long, kind-some, step-view}
+use Rattle.batch.specs.Actions.{actionAnswer}
+use Rattle.batch.specs.Journal.{bodyLength, entryLength, head, headStands, startsEntry, kindAt, bodyAt, Run, runOf, stepAs, stepOf, replayFrom}
+use Rattle.batch.specs.History.{Action, Addition, Amendment, Cancellation, kindOf, bodyOf, recordsAfter, recordsFrom, printed, linesOf, entryOf, entriesOf}
+use Rattle.batch.proofs.Sheets.{Sheet, sheet-step, fits-step}
+use Rattle.batch.proofs.Views.{answer-view}
+use Rattle.batch.proofs.Printing.{Accepts, Ok, entry-long, step-view}
 
 -- a property of a choice
 pub by-cond : {A : Type 0} (P : A → Type 0) (b : Bool) (x y : A) → (b ≡ true → P x) → (b ≡ false → P y) → P (cond b x y)
@@ -121,15 +119,16 @@ pub record ReadFrom (n : ℕ) (recs : List (List ℕ)) (j : List ℕ) (end u : �
 one-more : (n : ℕ) (recs : List (List ℕ)) (j : List ℕ) (end u : ℕ) (r : Run) (st : Stood j end u) → Accepts n recs (st .act)
     → ReadFrom n (recordsAfter recs (st .act)) j end (u + length (entryOf (st .act))) r → ReadFrom n recs j end u r
 one-more n recs j end u r st ok f =
-    let k = length (entryOf (st .act)) in
-    let z : end - u ≡ length (entryOf (st .act)) + (end - (u + length (entryOf (st .act)))) = omega (arith, st .within) in
+    let size : ℕ = length (entryOf (st .act)) in
+    let left : ℕ = end - (u + size) in
+    let split : end - u ≡ size + left = omega (arith, st .within) in
     record {
       acts = st .act ∷ f .acts;
       ok = (ok, f .ok);
-      bytes = ap (λ (i : ℕ). take i (drop u j)) z
-          ∙ take-add (length (entryOf (st .act))) (end - (u + length (entryOf (st .act)))) (drop u j)
-          ∙ ap (λ (t : List ℕ). t ++ take (end - (u + length (entryOf (st .act)))) (drop (length (entryOf (st .act))) (drop u j))) (st .bytes)
-          ∙ ap (λ (t : List ℕ). entryOf (st .act) ++ take (end - (u + length (entryOf (st .act)))) t) (drop-drop (length (entryOf (st .act))) u j)
+      bytes = ap (λ (i : ℕ). take i (drop u j)) split
+          ∙ take-add size left (drop u j)
+          ∙ ap (λ (t : List ℕ). t ++ take left (drop size (drop u j))) (st .bytes)
+          ∙ ap (λ (t : List ℕ). entryOf (st .act) ++ take left t) (drop-drop size u j)
           ∙ ap (λ (t : List ℕ). entryOf (st .act) ++ t) (f .bytes);
       held = f .held;
       file = f .file;
@@ -147,9 +146,6 @@ replay-read (suc k) n recs j end u v s f lim le =
     (λ g h. absurd (clash h g)))
     (λ l h. done (ltb-false u end l))
   where
-    file : List ℕ
-    file = printed n (linesOf recs)
-
     P : Run → Type 0
     P r = r .walk .good ≡ true → ReadFrom n recs j end u r
 
@@ -169,6 +165,5 @@ replay-read (suc k) n recs j end u v s f lim le =
         let met : actionAnswer (printed n (linesOf recs)) (length recs) (kindOf (st .act)) (bodyOf (st .act)) .code ≡ 0 = rw (← st .body, ← st .kind) (w .met) in
         let ok : Accepts n recs (st .act) = record { sized = st .sized; rule = rw (answer-view n recs s f (st .act)) at met } in
         let e = ap (λ (r : Run). replayFrom k j end r) (step-view n recs s f (st .act) ok j end u (st .kind) (st .body)) in
-        let q = recordsAfter recs (st .act) in
         let m = ih (recordsAfter recs (st .act)) (u + length (entryOf (st .act))) (sheet-step recs (n / 401) (st .act) s (ok .rule)) (fits-step n recs (st .act) f (ok .rule)) (st .within) (ap (λ (r : Run). r .walk .good) (sym e) ∙ h) in
         subst (λ (r : Run). ReadFrom n recs j end u r) (sym e) (one-more n recs j end u _ st ok m)

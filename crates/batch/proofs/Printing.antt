@@ -2,21 +2,19 @@
 -- Assumes nothing.
 use Prim.Native.Nat.{ℕ, zero, suc, _+_, _-_, _*_, _/_, _≤_, _<_}
 use mathlib.Core.Path.{_≡_, refl, sym, ap, _∙_}
-use mathlib.Core.Bool.{Bool, true, false, cond, _&&_}
-use mathlib.Core.List.{List, [], _∷_, _++_, map, append-assoc, append-nil}
+use mathlib.Core.Bool.{Bool, true, false, cond}
+use mathlib.Core.List.{List, [], _∷_, _++_, append-assoc, append-nil}
 use native.Mathlib.Nat.{add-zero, zero-add, sub-zero}
 use native.Mathlib.Omega.{arith}
 use borrow.Author.Tests.{eq-eqb, ne-eqb, lt-ltb, le-ltb, le-leb}
-use lib.Dec.{eqb, leb, ltb}
+use lib.Dec.{leb}
 use lib.ListN.{length, getD, take, drop, length-append}
 use lib.Seq.{getD-append-add, drop-append-add, take-at}
-use Rattle.text.specs.declared.Answer.{Answer}
-use Rattle.layout.specs.Widths.{joined}
 use Rattle.batch.specs.Actions.{actionAnswer, actionFile, actionHeld}
-use Rattle.batch.specs.Journal.{bodyLength, entryLength, entry, head, headStands, startsEntry, kindAt, bodyAt, Run, runOf, stepAs, stepOf, replayFrom, zeros, rebuilt}
+use Rattle.batch.specs.Journal.{bodyLength, entryLength, kindAt, bodyAt, Run, runOf, stepAs, stepOf, replayFrom, zeros, rebuilt}
 use Rattle.batch.specs.History.{Action, Addition, Amendment, Cancellation, kindOf, bodyOf, recordsAfter, recordsFrom, recordsOf, actionRule, printed, linesOf, entryOf, entriesOf}
-use Rattle.batch.proofs.Sheets.{Kept, Sheet, sheet-none, sheet-step, held-step, fits-step}
-use Rattle.batch.proofs.Views.{lines-long, answer-view, file-view}
+use Rattle.batch.proofs.Sheets.{Sheet, sheet-none, sheet-step, held-step, fits-step}
+use Rattle.batch.proofs.Views.{answer-view, file-view}
 
 -- ---- an action that is accepted, and a list of them, each in its turn
 pub record Accepts (n : ℕ) (recs : List (List ℕ)) (a : Action) : Type 0 where
@@ -148,10 +146,6 @@ ok-last n recs (x ∷ xs) a o h = (o .0, ok-last n (recordsAfter recs x) xs a (o
 pub ok-front : (n : ℕ) (recs : List (List ℕ)) (xs : List Action) (a : Action) → Ok n recs (xs ++ a ∷ []) → Ok n recs xs
 ok-front n recs [] a o = tt
 ok-front n recs (x ∷ xs) a o = (o .0, ok-front n (recordsAfter recs x) xs a (o .1))
-
-pub ok-there : (n : ℕ) (recs : List (List ℕ)) (xs : List Action) (a : Action) → Ok n recs (xs ++ a ∷ []) → Accepts n (recordsFrom recs xs) a
-ok-there n recs [] a o = o .0
-ok-there n recs (x ∷ xs) a o = ok-there n (recordsAfter recs x) xs a (o .1)
 
 pub entries-last : (xs : List Action) (a : Action) → entriesOf (xs ++ a ∷ []) ≡ entriesOf xs ++ entryOf a
 entries-last [] a = append-nil (entryOf a)

@@ -1,25 +1,25 @@
 -- The replay of the journal, turn by turn; the loops over file and journal that test the state.
 -- Assumes nothing.
-use Prim.Native.Nat.{ℕ, zero, suc, _+_, _-_, _*_, _%_, _≤_, _<_}
+use Prim.Native.Nat.{ℕ, suc, _+_, _-_, _*_, _%_, _≤_, _<_}
 use mathlib.Core.Path.{_≡_, refl, sym, ap, _∙_}
 use mathlib.Core.Bool.{Bool, true, false, cond, not, _&&_}
-use mathlib.Core.List.{List, [], _∷_, _++_}
+use mathlib.Core.List.{List}
 use native.Mathlib.Nat.{add-sub-cancel-left}
 use native.Mathlib.Numerals.{add-one}
 use native.Mathlib.Omega.{arith}
-use borrow.Author.Tests.{eq-eqb, ne-eqb, lt-ltb, le-ltb, not-true, not-false}
-use lib.Dec.{eqb, ltb, leb}
+use borrow.Author.Tests.{eq-eqb, ne-eqb, lt-ltb, le-ltb, not-true}
+use lib.Dec.{eqb, leb}
 use lib.ListN.{length, getD, take, drop, length-replicate}
 use Rattle.text.specs.Bytes.{every}
 use Rattle.text.proofs.Lists.{step, ended}
 use Rattle.posting.specs.declared.Totals.{Totals}
 use Rattle.posting.specs.Bounds.{Small, counted}
-use Rattle.posting.specs.File.{recordAt, noTotals, withRecord, totalsOver}
-use Rattle.posting.proofs.Amounts.{Bounded, totals-bounded, counts-small}
+use Rattle.posting.specs.File.{recordAt, noTotals, totalsOver}
+use Rattle.posting.proofs.Amounts.{totals-bounded, counts-small}
 use Rattle.batch.specs.declared.Walk.{Walk}
 use Rattle.batch.specs.Journal.{Run, runOf, stepOf, replayFrom, zeros, rebuilt}
-use Rattle.batch.specs.Duties.{Stepping, Moved, Stepped, Replayed}
-use Rattle.batch.specs.Batch.{isZero, sameTotals, rightLengths}
+use Rattle.batch.specs.Duties.{Stepping, Stepped, Replayed}
+use Rattle.batch.specs.Batch.{isZero, rightLengths}
 
 -- a run whose walk is known
 run-is : (r : Run) (w : Walk) (f : List ℕ) → w ≡ r .walk → f ≡ r .file → r ≡ record { walk = w; file = f }

@@ -1,21 +1,18 @@
 -- The records of a batch as a list: what is known of those that acceptable actions made.
 -- Assumes nothing.
 use Prim.Native.Nat.{ℕ, _*_, _/_, _≤_, _<_}
-use mathlib.Core.Path.{_≡_, refl, sym, ap, _∙_}
+use mathlib.Core.Path.{_≡_, refl, sym, _∙_}
 use mathlib.Core.Bool.{Bool, true, false, cond}
 use mathlib.Core.List.{List, [], _∷_, _++_, map}
 use native.Mathlib.Omega.{arith}
-use borrow.Author.Tests.{eqb-true, eqb-false, ltb-true}
-use lib.Dec.{eqb, ltb}
-use lib.ListN.{length, getD, take, drop, set, length-set}
-use lib.Seq.{take-set-le, drop-cons, drop-set-add}
-use Rattle.text.specs.declared.Answer.{Answer}
+use borrow.Author.Tests.{ltb-true}
+use lib.Dec.{ltb}
+use lib.ListN.{length, getD, take, drop}
 use Rattle.text.specs.Answers.{answer, accepted}
 use Rattle.text.specs.Lists.{sameBytes}
 use Rattle.text.proofs.Lists.{same-exactly}
 use Rattle.ident.specs.Identifier.{rightId}
 use Rattle.layout.specs.Layout.{fieldOf}
-use Rattle.record.specs.Columns.{orElse}
 use Rattle.record.specs.Rules.{recordAnswer}
 use Rattle.record.proofs.Status.{posting-passes, withdrawn-long, withdrawn-others, withdrawn-status, withdrawn-passes}
 use Rattle.batch.specs.Actions.{idOf, actionHeld}

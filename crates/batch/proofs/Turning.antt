@@ -1,31 +1,28 @@
 -- One call on what a list of actions makes: it is answered as the rules say, and leaves what the list after it makes.
 -- Assumes nothing.
-use Prim.Native.Nat.{ℕ, zero, suc, _+_, _-_, _*_, _/_, _≤_, _<_}
+use Prim.Native.Nat.{ℕ, _+_, _-_, _/_, _≤_}
 use mathlib.Core.Path.{_≡_, refl, sym, ap, _∙_, subst}
-use mathlib.Core.Bool.{Bool, true, false, cond, _&&_}
-use mathlib.Core.List.{List, [], _∷_, _++_, map, append-assoc}
+use mathlib.Core.Bool.{Bool, true, false, cond}
+use mathlib.Core.List.{List, [], _∷_, _++_, append-assoc}
 use native.Mathlib.Nat.{sub-zero, zero-add}
 use native.Mathlib.Omega.{arith}
-use borrow.Author.Tests.{eq-eqb, ne-eqb, eqb-true, eqb-false, leb-true, leb-false, le-leb, lt-leb}
-use lib.Dec.{eqb, leb, ltb}
+use borrow.Author.Tests.{ne-eqb, eqb-true, eqb-false, leb-true, leb-false, le-leb, lt-leb}
+use lib.Dec.{eqb, leb}
 use lib.ListN.{length, length-append}
 use Rattle.text.specs.declared.Answer.{Answer}
 use Rattle.text.specs.Answers.{answer, accepted}
 use Rattle.text.specs.Lists.{overlay}
-use Rattle.record.specs.Columns.{orElse}
-use Rattle.posting.specs.declared.Totals.{Totals}
-use Rattle.posting.specs.File.{noTotals, totalsOver}
+use Rattle.posting.specs.File.{totalsOver}
 use Rattle.posting.specs.Sums.{kept, totalsOf}
-use Rattle.batch.specs.Actions.{actionAnswer, actionFile, actionHeld}
-use Rattle.batch.specs.Journal.{bodyLength, entryLength, entry, Run, runOf, zeros, rebuilt}
-use Rattle.batch.specs.Batch.{Batch, batchOf, countsOf, noCounts, Call, Open, Add, Amend, Cancel, Undo, rightLengths, sound, ready, entryAnswer, workAnswer, answerTo, actionTotals, entered, latest, undone, opened, done, kept as unchanged, after}
-use Rattle.batch.specs.History.{Action, Addition, Amendment, Cancellation, callOf, kindOf, bodyOf, recordsAfter, recordsFrom, recordsOf, actionRule, entryRule, undoRule, ruleFor, rules, printed, linesOf, entryOf, entriesOf, made, withoutLatest, standingAfter}
+use Rattle.batch.specs.Journal.{entryLength, Run, runOf, zeros, rebuilt}
+use Rattle.batch.specs.Batch.{Batch, batchOf, noCounts, Call, Open, Add, Amend, Cancel, Undo, rightLengths, ready, entryAnswer, workAnswer, answerTo, entered, latest, undone, opened, done, kept as unchanged, after}
+use Rattle.batch.specs.History.{Action, Addition, Amendment, Cancellation, kindOf, bodyOf, recordsAfter, recordsOf, entryRule, undoRule, rules, printed, linesOf, entryOf, entriesOf, made, withoutLatest, standingAfter}
 use Rattle.batch.proofs.PrintedLines.{printed-more, printed-less}
-use Rattle.batch.proofs.Sheets.{Sheet, held-step}
+use Rattle.batch.proofs.Sheets.{held-step}
 use Rattle.batch.proofs.Views.{answer-view, file-view}
 use Rattle.batch.proofs.SheetTotals.{totals-view, totals-step}
-use Rattle.batch.proofs.Printing.{Accepts, Ok, entry-long, entry-some, length-entries, lastFrom, records-last, ok-last, ok-front, entries-last, last-last, rebuilt-is}
-use Rattle.batch.proofs.Exactly.{Stands, Fitting, accepted-entry, sheet-made, fits-made, file-long, journal-long, rebuilt-made, made-sound, batch-eq}
+use Rattle.batch.proofs.Printing.{entry-long, entry-some, length-entries, lastFrom, records-last, ok-last, ok-front, entries-last, last-last, rebuilt-is}
+use Rattle.batch.proofs.Exactly.{Stands, accepted-entry, sheet-made, fits-made, file-long, journal-long, rebuilt-made, made-sound, batch-eq}
 
 -- ---- the answer
 room-left : (u k m : ℕ) → u ≤ m → leb (u + k) m ≡ leb k (m - u)
@@ -36,9 +33,6 @@ room-left u k m h = go (leb k (m - u)) refl
     go false e = let l = leb-false k (m - u) e in lt-leb (u + k) m (omega arith)
 
 module _ (n m : ℕ) (good : rightLengths n m ≡ true) (xs : List Action) (st : Stands n m xs) where
-  abbrev recs : List (List ℕ)
-  recs = recordsOf xs
-
   entry-ruled : (a : Action) → entryAnswer (made n m xs) (kindOf a) (bodyOf a) ≡ entryRule (recordsOf xs) (n / 401) (m - length (entriesOf xs)) a
   unfolding made entryAnswer entryRule
   entry-ruled a =
@@ -106,22 +100,22 @@ module _ (n m : ℕ) (xs : List Action) (a : Action) (st : Stands n m (xs ++ a �
   abbrev full : Batch
   full = made n m (xs ++ a ∷ [])
 
-  abbrev tail : List ℕ
-  tail = zeros (m - length (entriesOf (xs ++ a ∷ [])))
+  abbrev behind : List ℕ
+  behind = zeros (m - length (entriesOf (xs ++ a ∷ [])))
 
   latest-is : latest full ≡ length (entriesOf xs)
   unfolding made
   latest-is = ap (λ (r : Run). r .walk .last) (rebuilt-made n m (xs ++ a ∷ []) st) ∙ last-last 0 0 xs a ∙ zero-add (length (entriesOf xs))
 
-  journal-is : printed m (entriesOf (xs ++ a ∷ [])) ≡ entriesOf xs ++ (entryOf a ++ zeros (m - length (entriesOf (xs ++ a ∷ []))))
-  journal-is = ap (λ (e : List ℕ). e ++ zeros (m - length (entriesOf (xs ++ a ∷ [])))) (entries-last xs a) ∙ append-assoc (entriesOf xs) (entryOf a) (zeros (m - length (entriesOf (xs ++ a ∷ []))))
+  journal-is : printed m (entriesOf (xs ++ a ∷ [])) ≡ entriesOf xs ++ (entryOf a ++ behind)
+  journal-is = ap (λ (e : List ℕ). e ++ behind) (entries-last xs a) ∙ append-assoc (entriesOf xs) (entryOf a) behind
 
   rebuilt-back : rebuilt (length (full .file)) (full .journal) (latest full) ≡ runOf true (length (recordsOf xs)) (length (entriesOf xs)) (lastFrom 0 0 xs) (printed n (linesOf (recordsOf xs)))
   unfolding made
   rebuilt-back =
       ap (λ (k : ℕ). rebuilt (length (full .file)) (full .journal) k) latest-is
       ∙ (λ i. rebuilt (file-long n m (xs ++ a ∷ []) st i) (journal-is i) (length (entriesOf xs)))
-      ∙ rebuilt-is n xs (entryOf a ++ zeros (m - length (entriesOf (xs ++ a ∷ [])))) (ok-front n [] xs a (st .ok))
+      ∙ rebuilt-is n xs (entryOf a ++ behind) (ok-front n [] xs a (st .ok))
 
   used-is : length (entriesOf (xs ++ a ∷ [])) ≡ length (entriesOf xs) + length (entryOf a)
   used-is = ap length (entries-last xs a) ∙ length-append (entriesOf xs) (entryOf a)
@@ -158,6 +152,10 @@ undo-taken n m (a ∷ xs) st z =
     (λ s. record { is = undone-is n m (withoutLatest (a ∷ xs)) (i .0) s; stands = stands-back n m (withoutLatest (a ∷ xs)) (i .0) s }) st
 
 -- ---- every call
+-- the standing list after a call
+abbrev pub listAfter : ℕ → ℕ → List Action → Call → List Action
+listAfter n m xs call = cond (eqb (answerTo (made n m xs) call .code) 0) (standingAfter xs call) xs
+
 module _ (n m : ℕ) (good : rightLengths n m ≡ true) (xs : List Action) (st : Stands n m xs) where
   open-taken : Taken n m (opened (made n m xs)) []
   unfolding made
@@ -179,7 +177,7 @@ module _ (n m : ℕ) (good : rightLengths n m ≡ true) (xs : List Action) (st :
   unchanged-is (Cancel id) z = refl
   unchanged-is Undo z = refl
 
-  pub turned : (call : Call) → Taken n m (after (made n m xs) call) (cond (eqb (answerTo (made n m xs) call .code) 0) (standingAfter xs call) xs)
+  pub turned : (call : Call) → Taken n m (after (made n m xs) call) (listAfter n m xs call)
   unfolding after
   turned call = go (eqb (answerTo (made n m xs) call .code) 0) refl
     where

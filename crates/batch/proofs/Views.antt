@@ -173,7 +173,7 @@ module _ (n : ℕ) (recs : List (List ℕ)) (s : Sheet recs) (fits : length recs
   amended rec long p =
       let m = touched recs s behind (idOf rec) p in
       ap (λ (k : ℕ). withLine (printed n (linesOf recs)) k rec) (m .found)
-      ∙ line-replaced recs behind (m .place) rec (long-of recs s) long (m .within)
+      ∙ line-replaced recs behind (m .place) (long-of recs s) (m .within) rec long
       ∙ ap (λ (others : List (List ℕ)). linesOf others ++ behind) (sym (changed-there recs s (idOf rec) (m .place) (m .within) (m .its) (λ old. rec)))
 
   withdrew : (id : List ℕ) → isPresent recs id ≡ true
@@ -181,7 +181,7 @@ module _ (n : ℕ) (recs : List (List ℕ)) (s : Sheet recs) (fits : length recs
   withdrew id p =
       let m = touched recs s behind id p in
       ap (λ (k : ℕ). withCancelled (printed n (linesOf recs)) k) (m .found)
-      ∙ bytes-changed recs behind (m .place) 340 48 341 32 (long-of recs s) (omega arith) (omega arith) (m .within)
+      ∙ bytes-changed recs behind (m .place) (long-of recs s) (m .within) 340 48 341 32 (omega arith) (omega arith)
       ∙ ap (λ (others : List (List ℕ)). linesOf others ++ behind) (sym (changed-there recs s id (m .place) (m .within) (m .its) withdrawn))
 
   pub file-view : (a : Action) → actionRule recs (n / 401) a .code ≡ 0
