@@ -1,12 +1,11 @@
 -- The calls: each way out of the functions.
 -- Assumes nothing.
-use Prim.Native.Nat.{ℕ, _+_, _-_, _%_, _≤_, _<_}
+use Prim.Native.Nat.{ℕ, _+_, _-_, _≤_, _<_}
 use mathlib.Core.Path.{_≡_, refl, sym, ap, _∙_}
-use mathlib.Core.Bool.{Bool, true, false, cond, not, _&&_, and-eq-true-iff}
+use mathlib.Core.Bool.{Bool, true, false, cond, not}
 use mathlib.Core.List.{List}
 use native.Mathlib.Omega.{arith}
-use borrow.Author.Tests.{eq-eqb, ne-eqb, le-leb, lt-leb, leb-true, not-true, not-false}
-use lib.Dec.{eqb, leb}
+use borrow.Author.Tests.{eq-eqb, ne-eqb, le-leb, lt-leb, not-true, not-false}
 use borrow.Rule.Slice.PartMut.{putMid, mid-len}
 use lib.ListN.{length, take, drop, length-replicate}
 use Rattle.text.specs.declared.Answer.{Answer}
@@ -26,6 +25,7 @@ use Rattle.batch.specs.Duties.{Acceptable, Replayed}
 use Rattle.batch.specs.Batch.{Batch, batchOf, Call, Open, Undo, rightLengths, sound, ready, entryAnswer, workAnswer, answerTo, entered, undone, latest, after, done, kept, noCounts, Called}
 use Rattle.batch.specs.Guards.{Guarded, Countable, countsAfter, Passed, Worked}
 use Rattle.batch.proofs.ReplayWays.{small-so-far}
+use Rattle.batch.proofs.GuardWays.{lengths-bounded}
 
 -- ---- enter
 module _ (file journal body : List ℕ) (c : Counts) (kind n : ℕ) (pre : Passed file journal c) (en : (n ≡ bodyLength kind) × (13 ≤ n) × (n ≤ 399)) where
@@ -69,14 +69,6 @@ module _ (file journal body : List ℕ) (c : Counts) (kind n : ℕ) (pre : Passe
         let fits : c .used + (n + 4) ≤ length journal = omega (arith, pre .ready .within) in
         let e : entryAnswer here kind body ≡ accepted = rw (← en .0, eq-eqb (length body) n long, ← ea, eq-eqb (a .code) 0 z, le-leb (c .used + (n + 4)) (length journal) fits) in
         record { answers = sym e; leaves = rw (e, ec, ef, ej) }
-
--- ---- the lengths
-pub lengths-bounded : (n m : ℕ) → rightLengths n m ≡ true → (n ≤ 400599) × (m ≤ 1048576)
-unfolding rightLengths
-lengths-bounded n m t =
-    let p = and-eq-true-iff (eqb (n % 401) 0 && leb 401 n && leb n 400599 && leb 403 m) (leb m 1048576) .0 t in
-    let q = and-eq-true-iff (eqb (n % 401) 0 && leb 401 n && leb n 400599) (leb 403 m) .0 (p .0) in
-    (leb-true n 400599 (and-eq-true-iff (eqb (n % 401) 0 && leb 401 n) (leb n 400599) .0 (q .0) .1), leb-true m 1048576 (p .1))
 
 -- ---- behind the guard
 module _ (file journal : List ℕ) (c : Counts) (g : Gate) (eg : Guarded file journal c g) where

@@ -49,6 +49,11 @@ pub used-past : (file journal : List ℕ) (c : Counts) (r : Verdict) → r .soun
 unfolding sound
 used-past file journal c r f h = refused-by file journal c r f (rw (lt-leb (c .used) (length journal) h))
 
+-- as many records as the replay counts have their places in the file
+pub holds-so : (scratch journal : List ℕ) (size end held : ℕ) (w : Walk) (made : List ℕ) → length scratch ≡ size → Replayed scratch journal end w made → w .held ≡ held
+    → (held ≤ 999) × (held * 401 ≤ size)
+holds-so scratch journal size end held w made e p h = (rw (← h) (p .holds .0), rw (← h, ← e) (p .holds .1))
+
 -- the replay of a sound batch, in a scratch buffer as long as the file
 module _ (scratch file journal : List ℕ) (c : Counts) (pre : (length scratch ≡ length file) × (length file ≤ 400599)) (u : c .used ≤ length journal)
     (w : Walk) (made : List ℕ) (p : Replayed scratch journal (c .used) w made) where
@@ -68,9 +73,6 @@ module _ (scratch file journal : List ℕ) (c : Counts) (pre : (length scratch �
     held-other r f n = refused-by file journal c r f (rw (le-leb (c .used) (length journal) u, walk-is, not-false (w .good) g, ne-eqb (w .held) (c .held) n))
 
     module _ (h : w .held ≡ c .held) (s : Bool) (es : s ≡ sameBytes made file) where
-      pub holds-so : (c .held ≤ 999) × (c .held * 401 ≤ length file)
-      holds-so = let q = p .holds in (rw (← h) (q .0), rw (← h, ← pre .0) (q .1))
-
       pub file-other : (r : Verdict) → r .sound ≡ false → not s ≡ true → Verified file journal c r
       unfolding sound
       file-other r f n = refused-by file journal c r f (rw (le-leb (c .used) (length journal) u, walk-is, file-is, not-false (w .good) g, eq-eqb (w .held) (c .held) h, ← es, not-true s n))
@@ -82,11 +84,13 @@ module _ (scratch file journal : List ℕ) (c : Counts) (pre : (length scratch �
 
         pub by-totals : (t : Totals) (r : Bool) → not z ≡ false → t ≡ totalsOver file (c .held) → r ≡ sameTotals t (c .totals) → Verified file journal c (record { sound = r; last = w .last })
         unfolding sound
-        by-totals t r nz et er = record {
-          says = rw (le-leb (c .used) (length journal) u, walk-is, file-is, not-false (w .good) g, eq-eqb (w .held) (c .held) h, ← es, not-false s ns, ← ez, not-false z nz, ← et) er;
-          ready = λ y. record { few = holds-so .0; fits = holds-so .1; within = u; totals = sym (totals-same t (c .totals) (sym er ∙ y)) ∙ et; back = omega (arith, p .back, ap (λ (x : Walk). x .last) walk-is) };
-          finds = λ y. sym (ap (λ (x : Walk). x .last) walk-is);
-        }
+        by-totals t r nz et er =
+            let holds = holds-so scratch journal (length file) (c .used) (c .held) w made (pre .0) p h in
+            record {
+              says = rw (le-leb (c .used) (length journal) u, walk-is, file-is, not-false (w .good) g, eq-eqb (w .held) (c .held) h, ← es, not-false s ns, ← ez, not-false z nz, ← et) er;
+              ready = λ y. record { few = holds .0; fits = holds .1; within = u; totals = sym (totals-same t (c .totals) (sym er ∙ y)) ∙ et; back = omega (arith, p .back, ap (λ (x : Walk). x .last) walk-is) };
+              finds = λ y. sym (ap (λ (x : Walk). x .last) walk-is);
+            }
 
 -- ---- verify
 pub scratch-long : (n k a : ℕ) → n ≤ k → length (take n (replicate k a)) ≡ n
@@ -96,13 +100,15 @@ scratch-long n k a h = length-take-le n (replicate k a) (rw (length-replicate k 
 pub lengths-wrong : (file journal : List ℕ) (c : Counts) (b : Bool) → b ≡ rightLengths (length file) (length journal) → not b ≡ true → Guarded file journal c (record { answer = answer 235 0; last = 0 })
 lengths-wrong file journal c b e n = record { says = rw (← e, not-true b n); ready = λ z. absurd (omega (arith, z)); lengths = λ z. absurd (omega (arith, z)); finds = λ z. absurd (omega (arith, z)) }
 
-pub lengths-file : (n m : ℕ) (b : Bool) → b ≡ rightLengths n m → not b ≡ false → n ≤ 400599
+pub lengths-bounded : (n m : ℕ) → rightLengths n m ≡ true → (n ≤ 400599) × (m ≤ 1048576)
 unfolding rightLengths
-lengths-file n m b e f =
-    let t = sym e ∙ not-false b f in
+lengths-bounded n m t =
     let p = and-eq-true-iff (eqb (n % 401) 0 && leb 401 n && leb n 400599 && leb 403 m) (leb m 1048576) .0 t in
     let q = and-eq-true-iff (eqb (n % 401) 0 && leb 401 n && leb n 400599) (leb 403 m) .0 (p .0) in
-    leb-true n 400599 (and-eq-true-iff (eqb (n % 401) 0 && leb 401 n) (leb n 400599) .0 (q .0) .1)
+    (leb-true n 400599 (and-eq-true-iff (eqb (n % 401) 0 && leb 401 n) (leb n 400599) .0 (q .0) .1), leb-true m 1048576 (p .1))
+
+pub lengths-file : (n m : ℕ) (b : Bool) → b ≡ rightLengths n m → not b ≡ false → n ≤ 400599
+lengths-file n m b e f = lengths-bounded n m (sym e ∙ not-false b f) .0
 
 module _ (file journal : List ℕ) (c : Counts) (b : Bool) (e : b ≡ rightLengths (length file) (length journal)) (f : not b ≡ false) (v : Verdict) (ev : Verified file journal c v) where
   pub not-sound : not (v .sound) ≡ true → Guarded file journal c (record { answer = answer 237 0; last = 0 })

@@ -86,6 +86,10 @@ module _ (file body : List ℕ) (held kind : ℕ) (pre : Acceptable file held ki
         let p = place-within n amends-some (en .1) in
         (p .0, p .1, pre .sized ∙ sized)
 
+    -- the record there, without its line end
+    pub amends-part : (n - 1) * 401 + 399 ≤ length file
+    amends-part = omega (arith, amends-within .1)
+
   module _ (not1 : kind ≡ 1 → ⊥) (not3 : kind ≡ 3 → ⊥) (n : ℕ) (en : (n ≡ seek file body held) × (n ≤ held)) where
     pub cancels-some : 1 ≤ n
     unfolding actionAnswer
@@ -96,6 +100,9 @@ module _ (file body : List ℕ) (held kind : ℕ) (pre : Acceptable file held ki
 
     pub cancels-within : (n - 1 ≤ 999) × ((n - 1) * 401 + 401 ≤ length file)
     cancels-within = place-within n cancels-some (en .1)
+
+    pub cancels-part : (n - 1) * 401 + 399 ≤ length file
+    cancels-part = omega (arith, cancels-within .1)
 
 -- how many records stand behind an accepted action
 held-within : (file body : List ℕ) (held kind : ℕ) → Acceptable file held kind body → length file ≤ 400599 → (actionHeld held kind ≤ 999) × (actionHeld held kind * 401 ≤ length file)

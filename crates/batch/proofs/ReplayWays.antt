@@ -36,7 +36,7 @@ pub record Going (journal : List ℕ) (end size : ℕ) (file : List ℕ) (held u
   pub back : last ≤ end
   pub long : length file ≡ size
 
-pub going-starts : (journal : List ℕ) (end size : ℕ) (file : List ℕ) → file ≡ zeros size → Going journal end size file 0 0 0
+going-starts : (journal : List ℕ) (end size : ℕ) (file : List ℕ) → file ≡ zeros size → Going journal end size file 0 0 0
 going-starts journal end size file e = record {
   turns = suc end;
   enough = omega arith;
@@ -89,15 +89,18 @@ module _ (journal : List ℕ) (end size : ℕ) (file : List ℕ) (held used last
   going-ends h = sym (g .same) ∙ ap (λ (k : ℕ). replayFrom k journal end (runOf true held used last file)) turn-left ∙ rw (le-ltb used end h)
 
 -- ---- replay
-pub cleared-long : (cleared file₀ : List ℕ) → cleared ≡ zeros (length file₀) → length cleared ≡ length file₀
-cleared-long cleared file₀ e = ap length e ∙ length-replicate (length file₀) 0
+pub cleared-long : (cleared : List ℕ) (n : ℕ) → cleared ≡ zeros n → length cleared ≡ n
+cleared-long cleared n e = ap length e ∙ length-replicate n 0
 
-pub cleared-is : (cleared file₀ : List ℕ) → cleared ≡ zeros (length file₀) → cleared ≡ zeros (length cleared)
-cleared-is cleared file₀ e = e ∙ ap zeros (sym (cleared-long cleared file₀ e))
+pub cleared-bounded : (cleared : List ℕ) (n : ℕ) → cleared ≡ zeros n → n ≤ 400599 → length cleared ≤ 400599
+cleared-bounded cleared n e b = omega (arith, cleared-long cleared n e)
+
+pub cleared-starts : (journal : List ℕ) (end : ℕ) (cleared file₀ : List ℕ) → cleared ≡ zeros (length file₀) → Going journal end (length cleared) cleared 0 0 0
+cleared-starts journal end cleared file₀ e = going-starts journal end (length cleared) cleared (e ∙ ap zeros (sym (cleared-long cleared (length file₀) e)))
 
 module _ (journal : List ℕ) (end : ℕ) (file₀ cleared file : List ℕ) (held used last : ℕ) (ec : cleared ≡ zeros (length file₀)) (g : Going journal end (length cleared) file held used last) where
   size : length cleared ≡ length file₀
-  size = ap length ec ∙ length-replicate (length file₀) 0
+  size = cleared-long cleared (length file₀) ec
 
   pub replay-fails : (r : Walk) (after : List ℕ) → used < end → Stepped file journal end held used r after → not (r .good) ≡ true → Replayed file₀ journal end r after
   replay-fails r after l s n =

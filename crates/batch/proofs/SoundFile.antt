@@ -15,7 +15,7 @@ use Rattle.batch.specs.Actions.{idOf, lineOf, withLine, placeOf, actionF
 use Rattle.batch.specs.Journal.{zeros}
 use Rattle.batch.specs.Batch.{Batch, Amend, rightLengths, sound, answerTo, entered, after}
 use Rattle.batch.specs.History.{Action, Amendment, printed, linesOf, recordsOf, entriesOf, rules, made, AmendsOnePlace, GoodFileOf}
-use Rattle.batch.proofs.CallWays.{lengths-bounded}
+use Rattle.batch.proofs.GuardWays.{lengths-bounded}
 use Rattle.batch.proofs.Sheets.{amends}
 use Rattle.batch.proofs.Views.{lines-long, id-view, Touched, touched}
 use Rattle.batch.proofs.SheetTotals.{file-passes}

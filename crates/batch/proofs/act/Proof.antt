@@ -1,14 +1,12 @@
 -- `batch::act` meets its contract.
 -- Assumes nothing.
 use borrow.Author.Needs.{needs}
-use native.Mathlib.Omega.{arith}
 use Rattle.batch.proofs.JournalWays.{adds-within, amends-some, amends-within, cancels-some, cancels-within, acted-add, acted-amend, acted-cancel}
-use borrow.Author.Needs.{needs}
 use Rattle.batch.proofs.act.Statement.{statement}
 use Rattle.batch.proofs.act.Tie as tie
 
 put-line-requires : tie.Need-put-line-requires
-put-line-requires c κs = adds-within (c .before .before .before .before .args .file .now) (c .before .before .before .before .args .body .now) (c .before .before .before .before .args .held) (c .before .before .before .before .args .kind) (c .before .before .before .before .pre) (c .before .if1 .taken)
+put-line-requires c κs = adds-within _ _ _ _ (c .before .before .before .before .pre) (c .before .if1 .taken)
 
 same-length : tie.Need-same-length
 same-length c = search needs
@@ -23,10 +21,16 @@ seek-requires : tie.Need-seek-requires
 seek-requires c κs = search needs
 
 sub-put-line : tie.Need-sub-put-line
-sub-put-line c = omega (arith, amends-some (c .before .before .before .before .before .before .before .before .args .file .now) (c .before .before .before .before .before .before .before .before .args .body .now) (c .before .before .before .before .before .before .before .before .args .held) (c .before .before .before .before .before .before .before .before .args .kind) (c .before .before .before .before .before .before .before .before .pre) (c .before .before .before .before .before .if1 .left) (c .before .before .before .before .if2 .taken) (c .before .before .field .result .now) (c .before .before .field .ensures) (c .before .seek .result) (c .before .seek .ensures))
+sub-put-line c = search amends-some
 
 put-line-requires-2 : tie.Need-put-line-requires-2
-put-line-requires-2 c κs = amends-within (c .before .before .before .before .before .before .before .before .args .file .now) (c .before .before .before .before .before .before .before .before .args .body .now) (c .before .before .before .before .before .before .before .before .args .held) (c .before .before .before .before .before .before .before .before .args .kind) (c .before .before .before .before .before .before .before .before .pre) (c .before .before .before .before .before .if1 .left) (c .before .before .before .before .if2 .taken) (c .before .before .field .result .now) (c .before .before .field .ensures) (c .before .seek .result) (c .before .seek .ensures)
+put-line-requires-2 c κs =
+    let at-seek = c .before in
+    let at-field = at-seek .before in
+    let at-if2 = at-field .before .before in
+    let at-if1 = at-if2 .before in
+    let start = at-if1 .before .before .before in
+    amends-within _ _ _ _ (start .pre) (at-if1 .if1 .left) (at-if2 .if2 .taken) _ (at-field .field .ensures) _ (at-seek .seek .ensures)
 
 same-length-2 : tie.Need-same-length-2
 same-length-2 c = search needs
@@ -38,10 +42,10 @@ seek-requires-2 : tie.Need-seek-requires-2
 seek-requires-2 c κs = search needs
 
 sub-put-cancelled : tie.Need-sub-put-cancelled
-sub-put-cancelled c = omega (arith, cancels-some (c .before .before .before .before .before .before .before .args .file .now) (c .before .before .before .before .before .before .before .args .body .now) (c .before .before .before .before .before .before .before .args .held) (c .before .before .before .before .before .before .before .args .kind) (c .before .before .before .before .before .before .before .pre) (c .before .before .before .before .if1 .left) (c .before .before .before .if2 .left) (c .before .seek2 .result) (c .before .seek2 .ensures))
+sub-put-cancelled c = search cancels-some
 
 put-cancelled-requires : tie.Need-put-cancelled-requires
-put-cancelled-requires c κs = cancels-within (c .before .before .before .before .before .before .before .args .file .now) (c .before .before .before .before .before .before .before .args .body .now) (c .before .before .before .before .before .before .before .args .held) (c .before .before .before .before .before .before .before .args .kind) (c .before .before .before .before .before .before .before .pre) (c .before .before .before .before .if1 .left) (c .before .before .before .if2 .left) (c .before .seek2 .result) (c .before .seek2 .ensures)
+put-cancelled-requires c κs = cancels-within _ _ _ _ (c .before .before .before .before .before .before .before .pre) (c .before .before .before .before .if1 .left) (c .before .before .before .if2 .left) _ (c .before .seek2 .ensures)
 
 same-length-3 : tie.Need-same-length-3
 same-length-3 c = search needs

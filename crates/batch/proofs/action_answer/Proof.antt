@@ -2,7 +2,6 @@
 -- Assumes nothing.
 use borrow.Author.Needs.{needs}
 use Rattle.batch.proofs.ActionWays.{action-add, action-amend, action-cancel}
-use borrow.Author.Needs.{needs}
 use Rattle.batch.proofs.action_answer.Statement.{statement}
 use Rattle.batch.proofs.action_answer.Tie as tie
 

@@ -2,7 +2,6 @@
 -- Assumes nothing.
 use borrow.Author.Needs.{needs}
 use Rattle.batch.proofs.ActionWays.{add-broken, add-repeats, add-room, add-full}
-use borrow.Author.Needs.{needs}
 use Rattle.batch.proofs.add_answer.Statement.{statement}
 use Rattle.batch.proofs.add_answer.Tie as tie
 
@@ -20,7 +19,7 @@ seek-requires c κs = search needs
 
 returns-2 : tie.Need-returns-2
 returns-2 c =
-    add-repeats (c .before .before .before .before .before .before .before .before .args .file .now) (c .before .before .before .before .before .before .before .before .args .rec .now) (c .before .before .before .before .before .before .before .before .args .held) (c .before .before .before .before .before .check-posting .result) (c .before .before .before .before .before .check-posting .ensures) (c .before .before .before .if1 .left) (c .before .before .field .result .now) (c .before .before .field .ensures) (c .before .seek .result) (c .before .seek .ensures) (c .if2 .taken)
+    add-repeats _ _ _ _ (c .before .before .before .before .before .check-posting .ensures) (c .before .before .before .if1 .left) _ (c .before .before .field .ensures) _ (c .before .seek .ensures) (c .if2 .taken)
 
 mul-if3 : tie.Need-mul-if3
 mul-if3 c = search needs

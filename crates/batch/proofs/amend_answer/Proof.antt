@@ -2,7 +2,6 @@
 -- Assumes nothing.
 use borrow.Author.Needs.{needs}
 use Rattle.batch.proofs.ActionWays.{amend-broken, amend-live}
-use borrow.Author.Needs.{needs}
 use Rattle.batch.proofs.amend_answer.Statement.{statement}
 use Rattle.batch.proofs.amend_answer.Tie as tie
 

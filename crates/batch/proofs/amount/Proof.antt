@@ -3,7 +3,6 @@
 use borrow.Author.Needs.{needs}
 use native.Mathlib.Omega.{arith}
 use Rattle.batch.proofs.CountWays.{amount-none, amount-is, amount-fits, amount-bad}
-use borrow.Author.Needs.{needs}
 use Rattle.batch.proofs.amount.Statement.{statement}
 use Rattle.batch.proofs.amount.Tie as tie
 

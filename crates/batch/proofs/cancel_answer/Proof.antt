@@ -2,7 +2,6 @@
 -- Assumes nothing.
 use borrow.Author.Needs.{needs}
 use Rattle.batch.proofs.ActionWays.{cancel-broken, cancel-live}
-use borrow.Author.Needs.{needs}
 use Rattle.batch.proofs.cancel_answer.Statement.{statement}
 use Rattle.batch.proofs.cancel_answer.Tie as tie
 

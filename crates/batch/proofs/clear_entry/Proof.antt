@@ -2,7 +2,6 @@
 -- Assumes nothing.
 use borrow.Author.Needs.{needs}
 use Rattle.batch.proofs.CallWays.{entry-cleared}
-use borrow.Author.Needs.{needs}
 use Rattle.batch.proofs.clear_entry.Statement.{statement}
 use Rattle.batch.proofs.clear_entry.Tie as tie
 

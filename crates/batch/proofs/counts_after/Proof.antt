@@ -2,10 +2,9 @@
 -- Assumes nothing.
 use borrow.Author.Needs.{needs}
 use native.Mathlib.Omega.{arith}
-use Rattle.batch.proofs.JournalWays.{amends-some, amends-within, cancels-some, cancels-within}
+use Rattle.batch.proofs.JournalWays.{amends-some, amends-part, cancels-some, cancels-part}
 use Rattle.batch.proofs.CountWays.{grown-fits, counted-add, counted-amend, counted-cancel}
 use Prim.Native.Nat.{_+_}
-use borrow.Author.Needs.{needs}
 use Rattle.batch.proofs.counts_after.Statement.{statement}
 use Rattle.batch.proofs.counts_after.Tie as tie
 
@@ -31,7 +30,7 @@ seek-requires : tie.Need-seek-requires
 seek-requires c κs = search needs
 
 sub-k : tie.Need-sub-k
-sub-k c = omega (arith, amends-some (c .before .before .before .before .before .before .args .file .now) (c .before .before .before .before .before .before .args .body .now) (c .before .before .before .before .before .before .args .c .held) (c .before .before .before .before .before .before .args .kind) (c .before .before .before .before .before .before .pre .acceptable) (c .before .before .before .if1 .left) (c .before .before .if2 .taken) (c .before .field .result .now) (c .before .field .ensures) (c .seek .result) (c .seek .ensures))
+sub-k c = search amends-some
 
 mul-a : tie.Need-mul-a
 mul-a c = search needs
@@ -46,7 +45,7 @@ part-amount-start : tie.Need-part-amount-start
 part-amount-start c = search needs
 
 part-amount-end : tie.Need-part-amount-end
-part-amount-end c = omega (arith, amends-within (c .before .before .before .before .before .before .args .file .now) (c .before .before .before .before .before .before .args .body .now) (c .before .before .before .before .before .before .args .c .held) (c .before .before .before .before .before .before .args .kind) (c .before .before .before .before .before .before .pre .acceptable) (c .before .before .before .if1 .left) (c .before .before .if2 .taken) (c .before .field .result .now) (c .before .field .ensures) (c .seek .result) (c .seek .ensures))
+part-amount-end c = search amends-part
 
 amount-requires-3 : tie.Need-amount-requires-3
 amount-requires-3 c κs = search needs
@@ -58,7 +57,7 @@ part-amount-start-2 : tie.Need-part-amount-start-2
 part-amount-start-2 c = search needs
 
 part-amount-end-2 : tie.Need-part-amount-end-2
-part-amount-end-2 c = omega (arith, amends-within (c .before .before .before .before .before .before .before .before .args .file .now) (c .before .before .before .before .before .before .before .before .args .body .now) (c .before .before .before .before .before .before .before .before .args .c .held) (c .before .before .before .before .before .before .before .before .args .kind) (c .before .before .before .before .before .before .before .before .pre .acceptable) (c .before .before .before .before .before .if1 .left) (c .before .before .before .before .if2 .taken) (c .before .before .before .field .result .now) (c .before .before .before .field .ensures) (c .before .before .seek .result) (c .before .before .seek .ensures))
+part-amount-end-2 c = search amends-part
 
 amount-requires-4 : tie.Need-amount-requires-4
 amount-requires-4 c κs = search needs
@@ -73,19 +72,28 @@ amounts-replaced-requires : tie.Need-amounts-replaced-requires
 amounts-replaced-requires c κs = search needs
 
 journal-grown-requires-2 : tie.Need-journal-grown-requires-2
-journal-grown-requires-2 c κs = grown-fits (c .before .before .before .before .before .before .before .before .before .before .before .before .before .args .c) (c .amounts-replaced .result) _ _ 403 (c .before .before .before .before .before .before .before .before .before .before .before .before .before .pre .room) (c .amounts-replaced .ensures) (omega arith)
+journal-grown-requires-2 c κs =
+    let start = c .before .before .before .before .before .before .before .before .before .before .before .before .before in
+    grown-fits (start .args .c) (c .amounts-replaced .result) _ _ 403 (start .pre .room) (c .amounts-replaced .ensures) (omega arith)
 
 returns-2 : tie.Need-returns-2
 returns-2 c =
-    counted-amend (c .before .before .before .before .before .before .before .before .before .before .before .before .before .before .args .file .now) (c .before .before .before .before .before .before .before .before .before .before .before .before .before .before .args .body .now) (c .before .before .before .before .before .before .before .before .before .before .before .before .before .before .args .c) (c .before .amounts-replaced .result) (c .journal-grown2 .result) (c .before .before .before .before .before .before .before .before .before .before .before .before .before .before .args .kind)
-    (c .before .before .before .before .before .before .amount3 .result) (c .before .before .before .before .amount4 .result) (c .before .before .before .amount5 .result) (c .before .before .amount6 .result) (c .before .before .before .before .before .before .before .before .before .field .result .now) (c .before .before .before .before .before .before .before .before .seek .result)
-    (c .before .before .before .before .before .before .before .before .before .before .before .if1 .left) (c .before .before .before .before .before .before .before .before .before .before .if2 .taken) (c .before .before .before .before .before .before .before .before .before .field .ensures) (c .before .before .before .before .before .before .before .before .seek .ensures) (c .before .before .before .before .before .before .amount3 .ensures) (c .before .before .before .before .amount4 .ensures) (c .before .before .before .amount5 .ensures) (c .before .before .amount6 .ensures) (c .before .amounts-replaced .ensures) (c .journal-grown2 .ensures)
+    let at-amounts-replaced = c .before in
+    let at-amount6 = at-amounts-replaced .before in
+    let at-amount5 = at-amount6 .before in
+    let at-amount4 = at-amount5 .before in
+    let at-amount3 = at-amount4 .before .before in
+    let at-seek = at-amount3 .before .before in
+    let at-field = at-seek .before in
+    let at-if2 = at-field .before in
+    let at-if1 = at-if2 .before in
+    counted-amend _ _ _ _ _ _ _ _ _ _ _ _ (at-if1 .if1 .left) (at-if2 .if2 .taken) (at-field .field .ensures) (at-seek .seek .ensures) (at-amount3 .amount3 .ensures) (at-amount4 .amount4 .ensures) (at-amount5 .amount5 .ensures) (at-amount6 .amount6 .ensures) (at-amounts-replaced .amounts-replaced .ensures) (c .journal-grown2 .ensures)
 
 seek-requires-2 : tie.Need-seek-requires-2
 seek-requires-2 c κs = search needs
 
 sub-k-2 : tie.Need-sub-k-2
-sub-k-2 c = omega (arith, cancels-some (c .before .before .before .before .before .args .file .now) (c .before .before .before .before .before .args .body .now) (c .before .before .before .before .before .args .c .held) (c .before .before .before .before .before .args .kind) (c .before .before .before .before .before .pre .acceptable) (c .before .before .if1 .left) (c .before .if2 .left) (c .seek2 .result) (c .seek2 .ensures))
+sub-k-2 c = search cancels-some
 
 mul-a-2 : tie.Need-mul-a-2
 mul-a-2 c = search needs
@@ -100,7 +108,7 @@ part-amount-start-3 : tie.Need-part-amount-start-3
 part-amount-start-3 c = search needs
 
 part-amount-end-3 : tie.Need-part-amount-end-3
-part-amount-end-3 c = omega (arith, cancels-within (c .before .before .before .before .before .args .file .now) (c .before .before .before .before .before .args .body .now) (c .before .before .before .before .before .args .c .held) (c .before .before .before .before .before .args .kind) (c .before .before .before .before .before .pre .acceptable) (c .before .before .if1 .left) (c .before .if2 .left) (c .seek2 .result) (c .seek2 .ensures))
+part-amount-end-3 c = search cancels-part
 
 amount-requires-7 : tie.Need-amount-requires-7
 amount-requires-7 c κs = search needs
@@ -112,7 +120,7 @@ part-amount-start-4 : tie.Need-part-amount-start-4
 part-amount-start-4 c = search needs
 
 part-amount-end-4 : tie.Need-part-amount-end-4
-part-amount-end-4 c = omega (arith, cancels-within (c .before .before .before .before .before .before .before .args .file .now) (c .before .before .before .before .before .before .before .args .body .now) (c .before .before .before .before .before .before .before .args .c .held) (c .before .before .before .before .before .before .before .args .kind) (c .before .before .before .before .before .before .before .pre .acceptable) (c .before .before .before .before .if1 .left) (c .before .before .before .if2 .left) (c .before .before .seek2 .result) (c .before .before .seek2 .ensures))
+part-amount-end-4 c = search cancels-part
 
 amount-requires-8 : tie.Need-amount-requires-8
 amount-requires-8 c κs = search needs
@@ -127,13 +135,21 @@ add-journal-grown : tie.Need-add-journal-grown
 add-journal-grown c = search needs
 
 journal-grown-requires-3 : tie.Need-journal-grown-requires-3
-journal-grown-requires-3 c κs = grown-fits (c .before .before .before .before .before .before .before .before .before .before .before .args .c) (c .before .one-cancelled .result) _ _ (c .body-length .result + 4) (c .before .before .before .before .before .before .before .before .before .before .before .pre .room) (c .before .one-cancelled .ensures) (omega arith)
+journal-grown-requires-3 c κs =
+    let at-one-cancelled = c .before in
+    let start = at-one-cancelled .before .before .before .before .before .before .before .before .before .before in
+    grown-fits (start .args .c) (at-one-cancelled .one-cancelled .result) _ _ (c .body-length .result + 4) (start .pre .room) (at-one-cancelled .one-cancelled .ensures) (omega arith)
 
 returns-3 : tie.Need-returns-3
 returns-3 c =
-    counted-cancel (c .before .before .before .before .before .before .before .before .before .before .before .before .args .file .now) (c .before .before .before .before .before .before .before .before .before .before .before .before .args .body .now) (c .before .before .before .before .before .before .before .before .before .before .before .before .args .c) (c .before .before .one-cancelled .result) (c .journal-grown3 .result) (c .before .before .before .before .before .before .before .before .before .before .before .before .args .kind)
-    (c .before .before .before .before .before .amount7 .result) (c .before .before .before .amount8 .result) (c .before .before .before .before .before .before .before .seek2 .result) (c .before .body-length .result)
-    (c .before .before .before .before .before .before .before .before .before .if1 .left) (c .before .before .before .before .before .before .before .before .if2 .left) (c .before .before .before .before .before .before .before .seek2 .ensures) (c .before .before .before .before .before .amount7 .ensures) (c .before .before .before .amount8 .ensures) (c .before .before .one-cancelled .ensures) (c .before .body-length .ensures) (c .journal-grown3 .ensures)
+    let at-body-length = c .before in
+    let at-one-cancelled = at-body-length .before in
+    let at-amount8 = at-one-cancelled .before in
+    let at-amount7 = at-amount8 .before .before in
+    let at-seek2 = at-amount7 .before .before in
+    let at-if2 = at-seek2 .before in
+    let at-if1 = at-if2 .before in
+    counted-cancel _ _ _ _ _ _ _ _ _ _ (at-if1 .if1 .left) (at-if2 .if2 .left) (at-seek2 .seek2 .ensures) (at-amount7 .amount7 .ensures) (at-amount8 .amount8 .ensures) (at-one-cancelled .one-cancelled .ensures) (at-body-length .body-length .ensures) (c .journal-grown3 .ensures)
 
 pub counts-after-spec : {M : Type 1} → statement M
 counts-after-spec =

@@ -2,7 +2,6 @@
 -- Assumes nothing.
 use borrow.Author.Needs.{needs}
 use Rattle.batch.proofs.CallWays.{enter-size, enter-refused, enter-full, enter-acceptable, enter-countable, enter-done}
-use borrow.Author.Needs.{needs}
 use Rattle.batch.proofs.enter.Statement.{statement}
 use Rattle.batch.proofs.enter.Tie as tie
 
@@ -10,7 +9,7 @@ body-length-requires : tie.Need-body-length-requires
 body-length-requires c κs = search needs
 
 returns : tie.Need-returns
-returns c = enter-size (c .before .before .before .before .before .args .file .now) (c .before .before .before .before .before .args .journal .now) (c .before .before .before .before .before .args .body .now) (c .before .before .before .before .before .args .c) (c .before .before .before .before .before .args .kind) (c .before .body-length .result) (c .before .before .before .before .before .pre) (c .before .body-length .ensures) (c .if1 .taken)
+returns c = enter-size _ _ _ _ _ _ (c .before .before .before .before .before .pre) (c .before .body-length .ensures) (c .if1 .taken)
 
 action-answer-requires : tie.Need-action-answer-requires
 action-answer-requires c κs = search needs
@@ -19,7 +18,7 @@ same-length : tie.Need-same-length
 same-length c = search needs
 
 returns-2 : tie.Need-returns-2
-returns-2 c = enter-refused (c .before .before .before .before .before .before .before .before .before .args .file .now) (c .before .before .before .before .before .before .before .before .before .args .journal .now) (c .before .before .before .before .before .before .before .before .before .args .body .now) (c .before .before .before .before .before .before .before .before .before .args .c) (c .before .before .before .before .before .before .before .before .before .args .kind) (c .before .before .before .before .before .body-length .result) (c .before .before .before .before .before .before .before .before .before .pre) (c .before .before .before .before .before .body-length .ensures) (c .before .before .before .before .if1 .left) (c .before .before .action-answer .result) (c .before .before .action-answer .ensures) (c .if2 .taken)
+returns-2 c = search enter-refused
 
 sub-if3 : tie.Need-sub-if3
 sub-if3 c = search needs
@@ -31,13 +30,25 @@ same-length-2 : tie.Need-same-length-2
 same-length-2 c = search needs
 
 returns-3 : tie.Need-returns-3
-returns-3 c = enter-full (c .before .before .before .before .before .before .before .before .before .before .args .file .now) (c .before .before .before .before .before .before .before .before .before .before .args .journal .now) (c .before .before .before .before .before .before .before .before .before .before .args .body .now) (c .before .before .before .before .before .before .before .before .before .before .args .c) (c .before .before .before .before .before .before .before .before .before .before .args .kind) (c .before .before .before .before .before .before .body-length .result) (c .before .before .before .before .before .before .before .before .before .before .pre) (c .before .before .before .before .before .before .body-length .ensures) (c .before .before .before .before .before .if1 .left) (c .before .before .before .action-answer .result) (c .before .before .before .action-answer .ensures) (c .before .if2 .left) (c .if3 .taken)
+returns-3 c = search enter-full
 
 counts-after-requires : tie.Need-counts-after-requires
-counts-after-requires c κs = enter-countable (c .before .before .before .before .before .before .before .before .before .before .before .args .file .now) (c .before .before .before .before .before .before .before .before .before .before .before .args .journal .now) (c .before .before .before .before .before .before .before .before .before .before .before .args .body .now) (c .before .before .before .before .before .before .before .before .before .before .before .args .c) (c .before .before .before .before .before .before .before .before .before .before .before .args .kind) (c .before .before .before .before .before .before .before .body-length .result) (c .before .before .before .before .before .before .before .before .before .before .before .pre) (c .before .before .before .before .before .before .before .body-length .ensures) (c .before .before .before .before .before .before .if1 .left) (c .before .before .before .before .action-answer .result) (c .before .before .before .before .action-answer .ensures) (c .before .before .if2 .left)
+counts-after-requires c κs =
+    let at-if2 = c .before .before in
+    let at-action-answer = at-if2 .before .before in
+    let at-if1 = at-action-answer .before .before in
+    let at-body-length = at-if1 .before in
+    let start = at-body-length .before .before .before .before in
+    enter-countable _ _ _ _ _ _ (start .pre) (at-body-length .body-length .ensures) (at-if1 .if1 .left) _ (at-action-answer .action-answer .ensures) (at-if2 .if2 .left)
 
 act-requires : tie.Need-act-requires
-act-requires c κs = enter-acceptable (c .before .before .before .before .before .before .before .before .before .before .before .before .before .args .file .now) (c .before .before .before .before .before .before .before .before .before .before .before .before .before .args .journal .now) (c .before .before .before .before .before .before .before .before .before .before .before .before .before .args .body .now) (c .before .before .before .before .before .before .before .before .before .before .before .before .before .args .c) (c .before .before .before .before .before .before .before .before .before .before .before .before .before .args .kind) (c .before .before .before .before .before .before .before .before .before .body-length .result) (c .before .before .before .before .before .before .before .before .before .before .before .before .before .pre) (c .before .before .before .before .before .before .before .before .before .body-length .ensures) (c .before .before .before .before .before .before .before .before .if1 .left) (c .before .before .before .before .before .before .action-answer .result) (c .before .before .before .before .before .before .action-answer .ensures) (c .before .before .before .before .if2 .left)
+act-requires c κs =
+    let at-if2 = c .before .before .before .before in
+    let at-action-answer = at-if2 .before .before in
+    let at-if1 = at-action-answer .before .before in
+    let at-body-length = at-if1 .before in
+    let start = at-body-length .before .before .before .before in
+    enter-acceptable _ _ _ _ _ _ (start .pre) (at-body-length .body-length .ensures) (at-if1 .if1 .left) _ (at-action-answer .action-answer .ensures) (at-if2 .if2 .left)
 
 put-entry-requires : tie.Need-put-entry-requires
 put-entry-requires c κs = search needs
@@ -49,7 +60,7 @@ same-length-4 : tie.Need-same-length-4
 same-length-4 c = search needs
 
 returns-4 : tie.Need-returns-4
-returns-4 c = enter-done (c .before .before .before .before .before .before .before .before .before .before .before .before .before .before .before .before .before .before .before .before .args .file .now) (c .before .before .before .before .before .before .before .before .before .before .before .before .before .before .before .before .before .before .before .before .args .journal .now) (c .before .before .before .before .before .before .before .before .before .before .before .before .before .before .before .before .before .before .before .before .args .body .now) (c .before .before .before .before .before .before .before .before .before .before .before .before .before .before .before .before .before .before .before .before .args .c) (c .before .before .before .before .before .before .before .before .before .before .before .before .before .before .before .before .before .before .before .before .args .kind) (c .before .before .before .before .before .before .before .before .before .before .before .before .before .before .before .before .body-length .result) (c .before .before .before .before .before .before .before .before .before .before .before .before .before .before .before .before .before .before .before .before .pre) (c .before .before .before .before .before .before .before .before .before .before .before .before .before .before .before .before .body-length .ensures) (c .before .before .before .before .before .before .before .before .before .before .before .before .before .before .before .if1 .left) (c .before .before .before .before .before .before .before .before .before .before .before .before .before .action-answer .result) (c .before .before .before .before .before .before .before .before .before .before .before .before .before .action-answer .ensures) (c .before .before .before .before .before .before .before .before .counts-after .result) (c .before .before .before .before .before .before .act .last .0) (c .before .before .put-entry .last .0) (c .before .before .before .before .before .before .before .before .before .before .before .if2 .left) (c .before .before .before .before .before .before .before .before .before .before .if3 .left) (c .before .before .before .before .before .before .before .before .counts-after .ensures) (c .before .before .before .before .before .before .act .ensures) (c .before .before .put-entry .ensures)
+returns-4 c = search enter-done
 
 pub enter-spec : {M : Type 1} → statement M
 enter-spec =

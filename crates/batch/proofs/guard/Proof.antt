@@ -2,7 +2,6 @@
 -- Assumes nothing.
 use borrow.Author.Needs.{needs}
 use Rattle.batch.proofs.GuardWays.{lengths-wrong, lengths-file, not-sound, all-sound}
-use borrow.Author.Needs.{needs}
 use Rattle.batch.proofs.guard.Statement.{statement}
 use Rattle.batch.proofs.guard.Tie as tie
 

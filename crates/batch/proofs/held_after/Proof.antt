@@ -2,7 +2,6 @@
 -- Assumes nothing.
 use borrow.Author.Needs.{needs}
 use borrow.Author.Tests.{eq-eqb, ne-eqb}
-use borrow.Author.Needs.{needs}
 use Rattle.batch.proofs.held_after.Statement.{statement}
 use Rattle.batch.proofs.held_after.Tie as tie
 

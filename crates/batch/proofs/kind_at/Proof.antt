@@ -2,7 +2,6 @@
 -- Assumes nothing.
 use borrow.Author.Needs.{needs}
 use Rattle.batch.proofs.JournalWays.{kind-one, kind-two, kind-three, kind-none}
-use borrow.Author.Needs.{needs}
 use Rattle.batch.proofs.kind_at.Statement.{statement}
 use Rattle.batch.proofs.kind_at.Tie as tie
 

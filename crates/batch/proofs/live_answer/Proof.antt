@@ -2,7 +2,6 @@
 -- Assumes nothing.
 use borrow.Author.Needs.{needs}
 use Rattle.batch.proofs.ActionWays.{not-present, is-cancelled, is-live}
-use borrow.Author.Needs.{needs}
 use Rattle.batch.proofs.live_answer.Statement.{statement}
 use Rattle.batch.proofs.live_answer.Tie as tie
 
@@ -28,7 +27,7 @@ returns-2 : tie.Need-returns-2
 returns-2 c = search is-cancelled
 
 returns-3 : tie.Need-returns-3
-returns-3 c = is-live (c .before .before .before .before .before .before .args .file .now) (c .before .before .before .before .before .before .args .id .now) (c .before .before .before .before .before .before .args .held) (c .before .before .before .seek .result) (c .before .before .before .seek .ensures) (c .before .before .if1 .left) (c .if2 .left)
+returns-3 c = is-live _ _ _ _ (c .before .before .before .seek .ensures) (c .before .before .if1 .left) (c .if2 .left)
 
 pub live-answer-spec : {M : Type 1} → statement M
 live-answer-spec =

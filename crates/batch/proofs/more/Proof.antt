@@ -2,7 +2,6 @@
 -- Assumes nothing.
 use borrow.Author.Needs.{needs}
 use Rattle.posting.proofs.Amounts.{sum-total, sum-never}
-use borrow.Author.Needs.{needs}
 use Rattle.batch.proofs.more.Statement.{statement}
 use Rattle.batch.proofs.more.Tie as tie
 

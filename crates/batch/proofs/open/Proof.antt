@@ -2,7 +2,6 @@
 -- Assumes nothing.
 use borrow.Author.Needs.{needs}
 use Rattle.batch.proofs.CallWays.{open-refused, open-done}
-use borrow.Author.Needs.{needs}
 use Rattle.batch.proofs.open.Statement.{statement}
 use Rattle.batch.proofs.open.Tie as tie
 

@@ -5,7 +5,6 @@ use native.Mathlib.Omega.{arith}
 use mathlib.Core.Path.{_≡_}
 use Prim.Native.Nat.{_+_, _*_}
 use lib.ListN.{length-set}
-use borrow.Author.Needs.{needs}
 use Rattle.batch.proofs.put_cancelled.Statement.{statement}
 use Rattle.batch.proofs.put_cancelled.Tie as tie
 

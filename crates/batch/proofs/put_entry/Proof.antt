@@ -2,7 +2,6 @@
 -- Assumes nothing.
 use borrow.Author.Needs.{needs}
 use Rattle.batch.proofs.GuardWays.{entry-put}
-use borrow.Author.Needs.{needs}
 use Rattle.batch.proofs.put_entry.Statement.{statement}
 use Rattle.batch.proofs.put_entry.Tie as tie
 

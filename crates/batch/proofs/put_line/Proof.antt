@@ -2,7 +2,6 @@
 -- Assumes nothing.
 use borrow.Author.Needs.{needs}
 use Rattle.batch.proofs.ActionWays.{line-put}
-use borrow.Author.Needs.{needs}
 use Rattle.batch.proofs.put_line.Statement.{statement}
 use Rattle.batch.proofs.put_line.Tie as tie
 

@@ -6,7 +6,7 @@ use mathlib.Core.Path.{_∙_}
 use Prim.Native.Nat.{_-_}
 use borrow.Author.Tests.{not-false}
 use lib.ListN.{length}
-use Rattle.batch.proofs.ReplayWays.{Going, going-starts, going-steps, going-on, cleared-long, cleared-is, replay-fails, replay-ends}
+use Rattle.batch.proofs.ReplayWays.{Going, going-steps, going-on, cleared-long, cleared-bounded, cleared-starts, replay-fails, replay-ends}
 use Rattle.batch.proofs.replay.Statement.{statement}
 use Rattle.batch.proofs.replay.Tie as tie
 
@@ -20,16 +20,22 @@ fill-requires : tie.Need-fill-requires Inv-loop μ-loop
 fill-requires c κs = search needs
 
 loop-holds : tie.Need-loop-holds Inv-loop μ-loop
-loop-holds c = going-starts (c .before .before .before .before .before .before .args .journal .now) (c .before .before .before .before .before .before .args .end) (length (c .before .before .fill .last .0)) (c .before .before .fill .last .0) (cleared-is (c .before .before .fill .last .0) (c .before .before .before .before .before .before .args .file .now) (c .before .before .fill .ensures))
+loop-holds c = search cleared-starts
 
 step-requires : tie.Need-step-requires Inv-loop μ-loop
-step-requires c κs = going-steps (c .before .before .before .before .before .before .before .before .before .args .journal .now) (c .before .before .before .before .before .before .before .before .before .args .end) (length (c .before .before .before .before .before .fill .last .0)) (c .before .before .loop .file) (c .before .before .loop .held) (c .before .before .loop .used) (c .before .before .loop .last) (c .before .before .loop .inv) (c .before .before .before .before .before .before .before .before .before .pre .0) (omega (arith, cleared-long (c .before .before .before .before .before .fill .last .0) (c .before .before .before .before .before .before .before .before .before .args .file .now) (c .before .before .before .before .before .fill .ensures), c .before .before .before .before .before .before .before .before .before .pre .1))
+step-requires c κs =
+    let start = c .before .before .before .before .before .before .before .before .before in
+    going-steps _ _ _ _ _ _ _ (c .before .before .loop .inv) (start .pre .0) (cleared-bounded _ _ (c .before .before .before .before .before .fill .ensures) (start .pre .1))
 
 same-length : tie.Need-same-length Inv-loop μ-loop
-same-length c = c .before .before .before .before .step .kept .0 ∙ c .before .before .before .before .before .before .before .loop .inv .long ∙ cleared-long (c .before .before .before .before .before .before .before .before .before .before .fill .last .0) (c .before .before .before .before .before .before .before .before .before .before .before .before .before .before .args .file .now) (c .before .before .before .before .before .before .before .before .before .before .fill .ensures)
+same-length c =
+    let at-step = c .before .before .before .before in
+    let at-loop = at-step .before .before .before in
+    let at-fill = at-loop .before .before .before in
+    at-step .step .kept .0 ∙ at-loop .loop .inv .long ∙ cleared-long _ _ (at-fill .fill .ensures)
 
 returns : tie.Need-returns Inv-loop μ-loop
-returns c = replay-fails (c .before .before .before .before .before .before .before .before .before .before .before .before .before .before .args .journal .now) (c .before .before .before .before .before .before .before .before .before .before .before .before .before .before .args .end) (c .before .before .before .before .before .before .before .before .before .before .before .before .before .before .args .file .now) (c .before .before .before .before .before .before .before .before .before .before .fill .last .0) (c .before .before .before .before .before .before .before .loop .file) (c .before .before .before .before .before .before .before .loop .held) (c .before .before .before .before .before .before .before .loop .used) (c .before .before .before .before .before .before .before .loop .last) (c .before .before .before .before .before .before .before .before .before .before .fill .ensures) (c .before .before .before .before .before .before .before .loop .inv) (c .before .before .before .before .step .result) (c .before .before .before .before .step .last .0) (c .before .before .before .before .before .before .loop-test .taken) (c .before .before .before .before .step .ensures) (c .if1 .taken)
+returns c = search replay-fails
 
 loop-less : tie.Need-loop-less Inv-loop μ-loop
 loop-less c =
@@ -37,13 +43,13 @@ loop-less c =
     omega (arith, m .forward, m .before)
 
 loop-again : tie.Need-loop-again Inv-loop μ-loop
-loop-again c = going-on (c .before .before .before .before .before .before .before .before .before .before .before .before .before .before .args .journal .now) (c .before .before .before .before .before .before .before .before .before .before .before .before .before .before .args .end) (length (c .before .before .before .before .before .before .before .before .before .before .fill .last .0)) (c .before .before .before .before .before .before .before .loop .file) (c .before .before .before .before .before .before .before .loop .held) (c .before .before .before .before .before .before .before .loop .used) (c .before .before .before .before .before .before .before .loop .last) (c .before .before .before .before .before .before .before .loop .inv) (c .before .before .before .before .before .before .loop-test .taken) (c .before .before .before .before .step .result) (c .before .before .before .before .step .last .0) (c .before .before .before .before .step .ensures) (not-false _ (c .if1 .left)) (c .before .before .before .before .step .kept .0)
+loop-again c = search (going-on, not-false)
 
 same-length-2 : tie.Need-same-length-2 Inv-loop μ-loop
-same-length-2 c = c .before .loop .inv .long ∙ cleared-long (c .before .before .before .before .fill .last .0) (c .before .before .before .before .before .before .before .before .args .file .now) (c .before .before .before .before .fill .ensures)
+same-length-2 c = c .before .loop .inv .long ∙ cleared-long _ _ (c .before .before .before .before .fill .ensures)
 
 returns-2 : tie.Need-returns-2 Inv-loop μ-loop
-returns-2 c = replay-ends (c .before .before .before .before .before .before .before .before .args .journal .now) (c .before .before .before .before .before .before .before .before .args .end) (c .before .before .before .before .before .before .before .before .args .file .now) (c .before .before .before .before .fill .last .0) (c .before .loop .file) (c .before .loop .held) (c .before .loop .used) (c .before .loop .last) (c .before .before .before .before .fill .ensures) (c .before .loop .inv) (c .loop-test .left)
+returns-2 c = search replay-ends
 
 pub replay-spec : {M : Type 1} → statement M
 replay-spec =

@@ -2,7 +2,6 @@
 -- Assumes nothing.
 use borrow.Author.Needs.{needs}
 use Rattle.batch.proofs.JournalWays.{entry-short, entry-head}
-use borrow.Author.Needs.{needs}
 use Rattle.batch.proofs.starts_entry.Statement.{statement}
 use Rattle.batch.proofs.starts_entry.Tie as tie
 

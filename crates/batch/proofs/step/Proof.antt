@@ -1,9 +1,7 @@
 -- `batch::step` meets its contract.
 -- Assumes nothing.
 use borrow.Author.Needs.{needs}
-use native.Mathlib.Omega.{arith}
 use Rattle.batch.proofs.JournalWays.{no-entry, body-within, entry-refused, entry-acceptable, entry-done}
-use borrow.Author.Needs.{needs}
 use Rattle.batch.proofs.step.Statement.{statement}
 use Rattle.batch.proofs.step.Tie as tie
 
@@ -29,7 +27,7 @@ part-action-answer-start : tie.Need-part-action-answer-start
 part-action-answer-start c = search needs
 
 part-action-answer-end : tie.Need-part-action-answer-end
-part-action-answer-end c = omega (arith, body-within (c .before .before .before .before .before .before .args .file .now) (c .before .before .before .before .before .before .args .journal .now) (c .before .before .before .before .before .before .args .end) (c .before .before .before .before .before .before .args .held) (c .before .before .before .before .before .before .args .used) (c .before .before .before .kind-at .result) (c .before .before .before .kind-at .ensures) (c .before .before .if1 .left) (c .before .body-length .result) (c .before .body-length .ensures) (c .before .before .before .before .before .before .pre .before) (c .before .before .before .before .before .before .pre .within))
+part-action-answer-end c = search body-within
 
 action-answer-requires : tie.Need-action-answer-requires
 action-answer-requires c κs = search needs
@@ -47,10 +45,17 @@ part-act-start : tie.Need-part-act-start
 part-act-start c = search needs
 
 part-act-end : tie.Need-part-act-end
-part-act-end c = omega (arith, body-within (c .before .before .before .before .before .before .before .before .before .before .before .args .file .now) (c .before .before .before .before .before .before .before .before .before .before .before .args .journal .now) (c .before .before .before .before .before .before .before .before .before .before .before .args .end) (c .before .before .before .before .before .before .before .before .before .before .before .args .held) (c .before .before .before .before .before .before .before .before .before .before .before .args .used) (c .before .before .before .before .before .before .before .before .kind-at .result) (c .before .before .before .before .before .before .before .before .kind-at .ensures) (c .before .before .before .before .before .before .before .if1 .left) (c .before .before .before .before .before .before .body-length .result) (c .before .before .before .before .before .before .body-length .ensures) (c .before .before .before .before .before .before .before .before .before .before .before .pre .before) (c .before .before .before .before .before .before .before .before .before .before .before .pre .within))
+part-act-end c = search body-within
 
 act-requires : tie.Need-act-requires
-act-requires c κs = entry-acceptable (c .before .before .before .before .before .before .before .before .before .before .before .before .args .file .now) (c .before .before .before .before .before .before .before .before .before .before .before .before .args .journal .now) (c .before .before .before .before .before .before .before .before .before .before .before .before .args .end) (c .before .before .before .before .before .before .before .before .before .before .before .before .args .held) (c .before .before .before .before .before .before .before .before .before .before .before .before .args .used) (c .before .before .before .before .before .before .before .before .before .kind-at .result) (c .before .before .before .before .before .before .before .before .before .kind-at .ensures) (c .before .before .before .before .before .before .before .before .if1 .left) (c .before .before .before .before .before .before .before .body-length .result) (c .before .before .before .before .before .before .before .body-length .ensures) (c .before .before .before .before .action-answer .result) (c .before .before .before .before .action-answer .ensures) (c .before .before .if2 .left) (c .before .before .before .before .before .before .before .before .before .before .before .before .pre)
+act-requires c κs =
+    let at-if2 = c .before .before in
+    let at-action-answer = at-if2 .before .before in
+    let at-body-length = at-action-answer .before .before .before in
+    let at-if1 = at-body-length .before in
+    let at-kind-at = at-if1 .before in
+    let start = at-kind-at .before .before .before in
+    entry-acceptable _ _ _ _ _ _ (at-kind-at .kind-at .ensures) (at-if1 .if1 .left) _ (at-body-length .body-length .ensures) _ (at-action-answer .action-answer .ensures) (at-if2 .if2 .left) (start .pre)
 
 held-after-requires : tie.Need-held-after-requires
 held-after-requires c κs = search needs

@@ -4,7 +4,6 @@ use borrow.Author.Needs.{needs}
 use mathlib.Core.Path.{sym}
 use lib.ListN.{length}
 use Rattle.batch.proofs.GuardWays.{scratch-long}
-use borrow.Author.Needs.{needs}
 use Rattle.batch.proofs.verify.Statement.{statement}
 use Rattle.batch.proofs.verify.Tie as tie
 

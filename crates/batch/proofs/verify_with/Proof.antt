@@ -2,7 +2,6 @@
 -- Assumes nothing.
 use borrow.Author.Needs.{needs}
 use Rattle.batch.proofs.GuardWays.{used-past, walk-bad, held-other, holds-so, file-other, rest-not-zero, by-totals}
-use borrow.Author.Needs.{needs}
 use Rattle.batch.proofs.verify_with.Statement.{statement}
 use Rattle.batch.proofs.verify_with.Tie as tie
 
@@ -58,7 +57,9 @@ returns-5 : tie.Need-returns-5
 returns-5 c = search rest-not-zero
 
 totals-over-requires : tie.Need-totals-over-requires
-totals-over-requires c κs = holds-so (c .before .before .before .before .before .before .before .before .before .before .before .before .before .before .before .before .before .before .args .scratch .now) (c .before .before .before .before .before .before .before .before .before .before .before .before .before .before .before .before .before .before .args .file .now) (c .before .before .before .before .before .before .before .before .before .before .before .before .before .before .before .before .before .before .args .journal .now) (c .before .before .before .before .before .before .before .before .before .before .before .before .before .before .before .before .before .before .args .c) (c .before .before .before .before .before .before .before .before .before .before .before .before .before .before .before .before .before .before .pre) (c .before .before .before .before .before .before .before .before .before .before .before .before .before .if1 .left) (c .before .before .before .before .before .before .before .before .before .before .before .replay .result) (c .before .before .before .before .before .before .before .before .before .before .before .replay .last .0) (c .before .before .before .before .before .before .before .before .before .before .before .replay .ensures) (c .before .before .before .before .before .before .before .if2 .left) (c .before .before .before .before .before .if3 .left) (c .before .before .before .same .result) (c .before .before .before .same .ensures)
+totals-over-requires c κs =
+    let start = c .before .before .before .before .before .before .before .before .before .before .before .before .before .before .before .before .before .before in
+    holds-so _ _ _ _ _ _ _ (start .pre .0) (c .before .before .before .before .before .before .before .before .before .before .before .replay .ensures) (c .before .before .before .before .before .if3 .left)
 
 same-totals-requires : tie.Need-same-totals-requires
 same-totals-requires c κs = search needs

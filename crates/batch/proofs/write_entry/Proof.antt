@@ -4,7 +4,6 @@ use borrow.Author.Needs.{needs}
 use native.Mathlib.Omega.{arith}
 use lib.ListN.{length-set}
 use Rattle.batch.proofs.GuardWays.{entry-written}
-use borrow.Author.Needs.{needs}
 use Rattle.batch.proofs.write_entry.Statement.{statement}
 use Rattle.batch.proofs.write_entry.Tie as tie
 
