@@ -2,9 +2,9 @@
 -- Assumes nothing.
 use Prim.Native.Nat.{ℕ, _≤_}
 
--- the most items of a file that are answered
+-- the most items of a file that are answered: more than a file can have, since each has four bytes and a file fewer than 2 ^ 63
 abbrev pub most : ℕ
-most = 1000000
+most = 4000000000000000000
 
 abbrev pub Answered : ℕ → Type 0
 Answered r = r ≤ most

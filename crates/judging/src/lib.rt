@@ -22,7 +22,7 @@ pub enum Kind {
 }
 
 // A loop has to end, and nothing says that a file does: no file of vectors has so many items.
-const MOST: u64 = 1_000_000;
+const MOST: u64 = 4_000_000_000_000_000_000;
 
 // A number, and behind it a space, or a line feed if it is the last of its line.
 fn print_number(n: u64, last: bool) -> bool {
