@@ -1,4 +1,4 @@
--- Records printed one behind the other, each with its line end: where each stands, one more, one replaced, one byte of one changed.
+-- Records printed one behind the other, each with its line end: where each stands, one more, one replaced, two bytes of one set, and the totals over them.
 -- Assumes nothing.
 use Prim.Native.Nat.{ℕ, zero, suc, _+_, _-_, _*_, _≤_, _<_}
 use mathlib.Core.Path.{_≡_, refl, sym, ap, _∙_}
