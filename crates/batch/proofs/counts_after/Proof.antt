@@ -73,8 +73,9 @@ amounts-replaced-requires c κs = search needs
 
 journal-grown-requires-2 : tie.Need-journal-grown-requires-2
 journal-grown-requires-2 c κs =
-    let start = c .before .before .before .before .before .before .before .before .before .before .before .before .before in
-    grown-fits (start .args .c) (c .amounts-replaced .result) _ _ 403 (start .pre .room) (c .amounts-replaced .ensures) (omega arith)
+    grown-fits (c .before .before .before .before .before .before .before .before .before .before .before .before .before .args .c) (c .amounts-replaced .result) _ _ 403
+    (c .before .before .before .before .before .before .before .before .before .before .before .before .before .pre .room)
+    (c .amounts-replaced .ensures) (omega arith)
 
 returns-2 : tie.Need-returns-2
 returns-2 c =
