@@ -20,8 +20,8 @@ use Rattle.ident.specs.Calls.{Checked}
 use Rattle.layout.specs.Layout.{fieldOf}
 use Rattle.record.specs.Columns.{orElse}
 use Rattle.record.specs.Rules.{recordAnswer}
-use Rattle.posting.specs.File.{idAt}
-use Rattle.batch.specs.Actions.{seek, liveAnswer, addAnswer, amendAnswer, cancelAnswer, lineOf, withLine, actionAnswer}
+use Rattle.posting.specs.File.{lineOf, idAt}
+use Rattle.batch.specs.Actions.{seek, liveAnswer, addAnswer, amendAnswer, cancelAnswer, withLine, actionAnswer}
 
 -- ---- seek: one record down
 seek-down : (file id : List ℕ) (j : ℕ) → 0 < j → seek file id j ≡ cond (sameBytes (idAt file (j - 1)) id) j (seek file id (j - 1))

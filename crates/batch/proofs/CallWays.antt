@@ -22,7 +22,7 @@ use Rattle.batch.specs.declared.Walk.{Walk}
 use Rattle.batch.specs.Actions.{actionAnswer, actionFile}
 use Rattle.batch.specs.Journal.{bodyLength, entry, zeros, rebuilt}
 use Rattle.batch.specs.Duties.{Acceptable, Replayed}
-use Rattle.batch.specs.Batch.{Batch, batchOf, Call, Open, Undo, rightLengths, sound, ready, entryAnswer, workAnswer, answerTo, entered, undone, latest, after, done, kept, noCounts, Called}
+use Rattle.batch.specs.Batch.{Batch, batchOf, Call, Open, Undo, rightLengths, sound, ready, entryAnswer, workAnswer, answerTo, entered, undone, latest, after, done, unchanged, noCounts, Called}
 use Rattle.batch.specs.Guards.{Guarded, Countable, countsAfter, Passed, Worked}
 use Rattle.batch.proofs.ReplayWays.{small-so-far}
 use Rattle.batch.proofs.GuardWays.{lengths-bounded}
@@ -90,7 +90,7 @@ module _ (file journal : List ℕ) (c : Counts) (g : Gate) (eg : Guarded file jo
           let q : _≡_ {A = ℕ} 237 0 = sym (ap (λ (x : Answer). x .code) says) ∙ z in
           absurd (omega arith)
 
-  module _ (call : Call) (er : ready this call ≡ sound this) (ek : kept this call ≡ this) where
+  module _ (call : Call) (er : ready this call ≡ sound this) (ek : unchanged this call ≡ this) where
     called-as : (a : Answer) → answerTo this call ≡ a → (a .code ≡ 0 → ⊥) → Called this call a c file journal
     unfolding after
     called-as a e z = record {

@@ -21,9 +21,9 @@ use Rattle.posting.specs.File.{totalsOver}
 use Rattle.posting.specs.Sums.{totalsOf}
 use Rattle.batch.specs.Journal.{bodyLength, entryLength, kindAt, bodyAt, Run, runOf, replayFrom, zeros, rebuilt}
 use Rattle.batch.specs.Batch.{Batch, batchOf, countsOf, isZero, sameTotals, sound}
-use Rattle.batch.specs.History.{Action, Addition, Amendment, Cancellation, callOf, kindOf, bodyOf, recordsAfter, recordsOf, actionRule, entryRule, ruleFor, rules, printed, linesOf, entryOf, entriesOf, made, InTurnBehind, InTurn, MadeBySome}
+use Rattle.batch.specs.History.{Action, Addition, Amendment, Cancellation, callOf, kindOf, bodyOf, recordsAfter, recordsOf, actionRule, entryRule, ruleFor, rules, zeroFilled, linesOf, entryOf, entriesOf, made, InTurnBehind, InTurn, MadeBySome}
 use Rattle.batch.proofs.GuardWays.{totals-same}
-use Rattle.batch.proofs.PrintedLines.{printed-long}
+use Rattle.batch.proofs.PrintedLines.{filled-long}
 use Rattle.batch.proofs.Sheets.{Sheet, sheet-none}
 use Rattle.batch.proofs.Views.{lines-long}
 use Rattle.batch.proofs.SheetTotals.{totals-view}
@@ -139,15 +139,15 @@ module _ (n m : ℕ) (xs : List Action) (st : Stands n m xs) where
   pub fits-made : length (recordsOf xs) * 401 ≤ n
   fits-made = fits-of n [] xs (omega arith) (st .ok)
 
-  pub file-long : length (printed n (linesOf (recordsOf xs))) ≡ n
-  file-long = printed-long n (linesOf (recordsOf xs)) (omega (arith, lines-long (recordsOf xs) sheet-made, fits-made))
+  pub file-long : length (zeroFilled n (linesOf (recordsOf xs))) ≡ n
+  file-long = filled-long n (linesOf (recordsOf xs)) (omega (arith, lines-long (recordsOf xs) sheet-made, fits-made))
 
-  pub journal-long : length (printed m (entriesOf xs)) ≡ m
-  journal-long = printed-long m (entriesOf xs) (st .room)
+  pub journal-long : length (zeroFilled m (entriesOf xs)) ≡ m
+  journal-long = filled-long m (entriesOf xs) (st .room)
 
-  pub rebuilt-made : rebuilt (length (printed n (linesOf (recordsOf xs)))) (printed m (entriesOf xs)) (length (entriesOf xs))
-      ≡ runOf true (length (recordsOf xs)) (length (entriesOf xs)) (lastFrom 0 0 xs) (printed n (linesOf (recordsOf xs)))
-  rebuilt-made = ap (λ (k : ℕ). rebuilt k (printed m (entriesOf xs)) (length (entriesOf xs))) file-long ∙ rebuilt-is n xs (zeros (m - length (entriesOf xs))) (st .ok)
+  pub rebuilt-made : rebuilt (length (zeroFilled n (linesOf (recordsOf xs)))) (zeroFilled m (entriesOf xs)) (length (entriesOf xs))
+      ≡ runOf true (length (recordsOf xs)) (length (entriesOf xs)) (lastFrom 0 0 xs) (zeroFilled n (linesOf (recordsOf xs)))
+  rebuilt-made = ap (λ (k : ℕ). rebuilt k (zeroFilled m (entriesOf xs)) (length (entriesOf xs))) file-long ∙ rebuilt-is n xs (zeros (m - length (entriesOf xs))) (st .ok)
 
   pub made-sound : sound (made n m xs) ≡ true
   unfolding made
@@ -189,14 +189,14 @@ module _ (b : Batch) (f : Sounds b) (r : ReadFrom (length (b .file)) [] (b .jour
   used-is : b .counts .used ≡ length (entriesOf (r .acts))
   used-is = sym (length-take-le (b .counts .used) (b .journal) (f .within)) ∙ ap length front
 
-  journal-is : b .journal ≡ printed (length (b .journal)) (entriesOf (r .acts))
+  journal-is : b .journal ≡ zeroFilled (length (b .journal)) (entriesOf (r .acts))
   journal-is =
       let behind : length (drop (b .counts .used) (b .journal)) ≡ length (b .journal) - length (entriesOf (r .acts)) = length-drop (b .counts .used) (b .journal) ∙ ap (λ (k : ℕ). length (b .journal) - k) used-is in
       sym (take-append-drop (b .counts .used) (b .journal))
       ∙ ap (λ (t : List ℕ). t ++ drop (b .counts .used) (b .journal)) front
       ∙ ap (λ (t : List ℕ). entriesOf (r .acts) ++ t) (zeros-are (drop (b .counts .used) (b .journal)) (f .rest) ∙ ap zeros behind)
 
-  file-is : b .file ≡ printed (length (b .file)) (linesOf (recordsOf (r .acts)))
+  file-is : b .file ≡ zeroFilled (length (b .file)) (linesOf (recordsOf (r .acts)))
   file-is = sym (f .file) ∙ r .file
 
   held-is : b .counts .held ≡ length (recordsOf (r .acts))

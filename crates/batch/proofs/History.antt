@@ -12,18 +12,18 @@ use lib.ListN.{length}
 use Rattle.text.specs.declared.Answer.{Answer}
 use Rattle.text.specs.Answers.{accepted}
 use Rattle.batch.specs.Batch.{Batch, Call, Open, Undo, rightLengths, sound, ready, answerTo, after}
-use Rattle.batch.specs.History.{Action, Addition, Amendment, Cancellation, callOf, undoRule, rules, made, InTurnBehind, InTurn, run, answersOf, withoutLatest, standingAfter, standingFrom, standing, GoodLengths, History, Performed, Undoes}
+use Rattle.batch.specs.History.{Action, Addition, Amendment, Cancellation, callOf, undoRule, rules, made, InTurnBehind, InTurn, afterAll, answersOf, withoutLatest, standingAfter, standingFrom, standing, GoodLengths, History, Performed, Undoes}
 use Rattle.batch.proofs.Parsing.{by-cond}
 use Rattle.batch.proofs.Exactly.{Stands, stands-exactly, found}
 use Rattle.batch.proofs.Turning.{answered-by-rules, Taken, none-stands, opening, listAfter, turned}
 
 -- ---- from any list that stands
 module _ (n m : ℕ) (good : rightLengths n m ≡ true) where
-  runs : (calls : List Call) (xs : List Action) → Stands n m xs → Taken n m (run (made n m xs) calls) (standingFrom xs calls (answersOf (made n m xs) calls))
+  runs : (calls : List Call) (xs : List Action) → Stands n m xs → Taken n m (afterAll (made n m xs) calls) (standingFrom xs calls (answersOf (made n m xs) calls))
   runs [] xs st = record { is = refl; stands = st }
   runs (call ∷ calls) xs st =
       let t = turned n m good xs st call in
-      subst (λ (b : Batch). Taken n m (run b calls) (standingFrom (listAfter n m xs call) calls (answersOf b calls))) (sym (t .is))
+      subst (λ (b : Batch). Taken n m (afterAll b calls) (standingFrom (listAfter n m xs call) calls (answersOf b calls))) (sym (t .is))
       (runs calls (listAfter n m xs call) (t .stands))
 
 -- ---- what a list makes is what performing it makes, each call answering 0
@@ -45,7 +45,7 @@ module _ (n m : ℕ) (good : rightLengths n m ≡ true) where
       let k = action-taken before a st (ap (λ (r : Answer). r .code) met) in
       let i = perform (before ++ a ∷ []) xs (k .stands) (t .1) in
       record {
-        leaves = ap (λ (b : Batch). run b (map callOf xs)) (k .is) ∙ i .leaves ∙ ap (made n m) (append-assoc before (a ∷ []) xs);
+        leaves = ap (λ (b : Batch). afterAll b (map callOf xs)) (k .is) ∙ i .leaves ∙ ap (made n m) (append-assoc before (a ∷ []) xs);
         answers = λ j. met j ∷ (ap (λ (b : Batch). answersOf b (map callOf xs)) (k .is) ∙ i .answers) j;
       }
 

@@ -13,7 +13,7 @@ use Rattle.text.proofs.Lists.{step}
 use Rattle.text.proofs.Booleans.{clash}
 use Rattle.batch.specs.Actions.{actionAnswer}
 use Rattle.batch.specs.Journal.{bodyLength, entryLength, head, headStands, startsEntry, kindAt, bodyAt, Run, runOf, stepAs, stepOf, replayFrom}
-use Rattle.batch.specs.History.{Action, Addition, Amendment, Cancellation, kindOf, bodyOf, recordsAfter, recordsFrom, printed, linesOf, entryOf, entriesOf}
+use Rattle.batch.specs.History.{Action, Addition, Amendment, Cancellation, kindOf, bodyOf, recordsAfter, recordsFrom, zeroFilled, linesOf, entryOf, entriesOf}
 use Rattle.batch.proofs.Sheets.{Sheet, sheet-step, fits-step}
 use Rattle.batch.proofs.Views.{answer-view}
 use Rattle.batch.proofs.Printing.{Accepts, Ok, entry-long, step-view}
@@ -114,7 +114,7 @@ pub record ReadFrom (n : ℕ) (recs : List (List ℕ)) (j : List ℕ) (end u : �
   pub ok : Ok n recs acts
   pub bytes : take (end - u) (drop u j) ≡ entriesOf acts
   pub held : r .walk .held ≡ length (recordsFrom recs acts)
-  pub file : r .file ≡ printed n (linesOf (recordsFrom recs acts))
+  pub file : r .file ≡ zeroFilled n (linesOf (recordsFrom recs acts))
 
 one-more : (n : ℕ) (recs : List (List ℕ)) (j : List ℕ) (end u : ℕ) (r : Run) (st : Stood j end u) → Accepts n recs (st .act)
     → ReadFrom n (recordsAfter recs (st .act)) j end (u + length (entryOf (st .act))) r → ReadFrom n recs j end u r
@@ -135,34 +135,34 @@ one-more n recs j end u r st ok f =
     }
 
 pub replay-read : (k n : ℕ) (recs : List (List ℕ)) (j : List ℕ) (end u v : ℕ) → Sheet recs → length recs * 401 ≤ n → end ≤ length j → u ≤ end
-    → replayFrom k j end (runOf true (length recs) u v (printed n (linesOf recs))) .walk .good ≡ true
-    → ReadFrom n recs j end u (replayFrom k j end (runOf true (length recs) u v (printed n (linesOf recs))))
+    → replayFrom k j end (runOf true (length recs) u v (zeroFilled n (linesOf recs))) .walk .good ≡ true
+    → ReadFrom n recs j end u (replayFrom k j end (runOf true (length recs) u v (zeroFilled n (linesOf recs))))
 unfolding replayFrom
 replay-read zero n recs j end u v s f lim le = λ h. absurd (clash h refl)
 replay-read (suc k) n recs j end u v s f lim le =
     by-cond P (ltb u end) _ _
-    (λ l. by-cond P (stepOf (printed n (linesOf recs)) j end (length recs) u .walk .good) _ _
-    (λ g h. on (went-well (printed n (linesOf recs)) j (length recs) u (kindAt j end u) g) (λ qs w sq fq. replay-read k n qs j end w u sq fq lim) h)
+    (λ l. by-cond P (stepOf (zeroFilled n (linesOf recs)) j end (length recs) u .walk .good) _ _
+    (λ g h. on (went-well (zeroFilled n (linesOf recs)) j (length recs) u (kindAt j end u) g) (λ qs w sq fq. replay-read k n qs j end w u sq fq lim) h)
     (λ g h. absurd (clash h g)))
     (λ l h. done (ltb-false u end l))
   where
     P : Run → Type 0
     P r = r .walk .good ≡ true → ReadFrom n recs j end u r
 
-    done : end ≤ u → ReadFrom n recs j end u (runOf true (length recs) u v (printed n (linesOf recs)))
+    done : end ≤ u → ReadFrom n recs j end u (runOf true (length recs) u v (zeroFilled n (linesOf recs)))
     done l =
         let z : end - u ≡ 0 = omega arith in
         record { acts = []; ok = tt; bytes = ap (λ (i : ℕ). take i (drop u j)) z; held = refl; file = refl }
 
-    on : WentWell (printed n (linesOf recs)) j (length recs) u (kindAt j end u)
+    on : WentWell (zeroFilled n (linesOf recs)) j (length recs) u (kindAt j end u)
         → ((qs : List (List ℕ)) (w : ℕ) → Sheet qs → length qs * 401 ≤ n → w ≤ end
-        → replayFrom k j end (runOf true (length qs) w u (printed n (linesOf qs))) .walk .good ≡ true
-        → ReadFrom n qs j end w (replayFrom k j end (runOf true (length qs) w u (printed n (linesOf qs)))))
-        → replayFrom k j end (stepOf (printed n (linesOf recs)) j end (length recs) u) .walk .good ≡ true
-        → ReadFrom n recs j end u (replayFrom k j end (stepOf (printed n (linesOf recs)) j end (length recs) u))
+        → replayFrom k j end (runOf true (length qs) w u (zeroFilled n (linesOf qs))) .walk .good ≡ true
+        → ReadFrom n qs j end w (replayFrom k j end (runOf true (length qs) w u (zeroFilled n (linesOf qs)))))
+        → replayFrom k j end (stepOf (zeroFilled n (linesOf recs)) j end (length recs) u) .walk .good ≡ true
+        → ReadFrom n recs j end u (replayFrom k j end (stepOf (zeroFilled n (linesOf recs)) j end (length recs) u))
     on w ih h =
         let st = stood j end u lim (w .some) in
-        let met : actionAnswer (printed n (linesOf recs)) (length recs) (kindOf (st .act)) (bodyOf (st .act)) .code ≡ 0 = rw (← st .body, ← st .kind) (w .met) in
+        let met : actionAnswer (zeroFilled n (linesOf recs)) (length recs) (kindOf (st .act)) (bodyOf (st .act)) .code ≡ 0 = rw (← st .body, ← st .kind) (w .met) in
         let ok : Accepts n recs (st .act) = record { sized = st .sized; rule = rw (answer-view n recs s f (st .act)) at met } in
         let e = ap (λ (r : Run). replayFrom k j end r) (step-view n recs s f (st .act) ok j end u (st .kind) (st .body)) in
         let m = ih (recordsAfter recs (st .act)) (u + length (entryOf (st .act))) (sheet-step recs (n / 401) (st .act) s (ok .rule)) (fits-step n recs (st .act) f (ok .rule)) (st .within) (ap (λ (r : Run). r .walk .good) (sym e) ∙ h) in

@@ -8,13 +8,12 @@ use native.Mathlib.Omega.{arith}
 use lib.ListN.{length, getD, take, drop, set, length-append, length-set, length-replicate, replicate-append-replicate, List·getD-append}
 use lib.Seq.{split-at, take-append-seam, drop-append-add, take-at, drop-at, getD-at, getD-take, getD-drop, getD-append-add, length-take-le, set-split, set-append-left, ext-getD}
 use Rattle.text.specs.Lists.{overlay}
-use Rattle.posting.specs.File.{recordAt, totalsOver}
+use Rattle.posting.specs.File.{lineOf, recordAt, totalsOver}
 use Rattle.posting.specs.Sums.{totalsOf}
 use Rattle.posting.proofs.Lines.{Ended}
 use Rattle.posting.proofs.RecordList.{length-upTo, upTo-nth, records, totals-are-sums}
-use Rattle.batch.specs.Actions.{lineOf}
 use Rattle.batch.specs.Journal.{zeros}
-use Rattle.batch.specs.History.{printed, linesOf}
+use Rattle.batch.specs.History.{zeroFilled, linesOf}
 
 -- ---- a text printed into a buffer
 drop-zeros : (i k : ℕ) → drop i (zeros k) ≡ zeros (k - i)
@@ -25,8 +24,8 @@ drop-zeros (suc i) (suc k) = drop-zeros i k ∙ ap zeros (sym (suc-sub-suc k i))
 zeros-joined : (a b n : ℕ) → a + b ≡ n → zeros a ++ zeros b ≡ zeros n
 zeros-joined a b n e = replicate-append-replicate a b 0 ∙ ap zeros e
 
-pub printed-long : (n : ℕ) (s : List ℕ) → length s ≤ n → length (printed n s) ≡ n
-printed-long n s h = omega (arith, length-append s (zeros (n - length s)), length-replicate {A = ℕ} (n - length s) 0)
+pub filled-long : (n : ℕ) (s : List ℕ) → length s ≤ n → length (zeroFilled n s) ≡ n
+filled-long n s h = omega (arith, length-append s (zeros (n - length s)), length-replicate {A = ℕ} (n - length s) 0)
 
 -- q in the place of p, as long
 overlay-middle : (s p r q : List ℕ) → length p ≡ length q → overlay (s ++ (p ++ r)) (length s) q ≡ s ++ (q ++ r)
@@ -39,16 +38,16 @@ set-past [] s a v = ap (λ (k : ℕ). set s k v) (zero-add a)
 set-past (x ∷ p) s a v = ap (λ (k : ℕ). set (x ∷ (p ++ s)) k v) (suc-add (length p) a) ∙ ap (λ (t : List ℕ). x ∷ t) (set-past p s a v)
 
 -- more, behind what is printed
-pub printed-more : (n : ℕ) (s p : List ℕ) → overlay (printed n s) (length s) p ≡ printed n (s ++ p)
-printed-more n s p =
+pub filled-more : (n : ℕ) (s p : List ℕ) → overlay (zeroFilled n s) (length s) p ≡ zeroFilled n (s ++ p)
+filled-more n s p =
     let z : n - length s - length p ≡ n - length (s ++ p) = omega (arith, length-append s p) in
-    ap (λ (t : List ℕ). t ++ (p ++ drop (length s + length p) (printed n s))) (take-append-seam s (zeros (n - length s)))
+    ap (λ (t : List ℕ). t ++ (p ++ drop (length s + length p) (zeroFilled n s))) (take-append-seam s (zeros (n - length s)))
     ∙ ap (λ (t : List ℕ). s ++ (p ++ t)) (drop-append-add s (zeros (n - length s)) (length p) ∙ drop-zeros (length p) (n - length s) ∙ ap zeros z)
     ∙ sym (append-assoc s p (zeros (n - length (s ++ p))))
 
 -- the last part taken off again
-pub printed-less : (m : ℕ) (s p : List ℕ) → length (s ++ p) ≤ m → overlay (printed m (s ++ p)) (length s) (zeros (length p)) ≡ printed m s
-printed-less m s p h =
+pub filled-less : (m : ℕ) (s p : List ℕ) → length (s ++ p) ≤ m → overlay (zeroFilled m (s ++ p)) (length s) (zeros (length p)) ≡ zeroFilled m s
+filled-less m s p h =
     ap (λ (t : List ℕ). overlay t (length s) (zeros (length p))) (append-assoc s p (zeros (m - length (s ++ p))))
     ∙ overlay-middle s p (zeros (m - length (s ++ p))) (zeros (length p)) (sym (length-replicate (length p) 0))
     ∙ ap (λ (t : List ℕ). s ++ t) (zeros-joined (length p) (m - length (s ++ p)) (m - length s) (omega (arith, length-append s p)))

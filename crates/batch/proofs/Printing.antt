@@ -12,7 +12,7 @@ use lib.ListN.{length, getD, take, drop, length-append}
 use lib.Seq.{getD-append-add, drop-append-add, take-at}
 use Rattle.batch.specs.Actions.{actionAnswer, actionFile, actionHeld}
 use Rattle.batch.specs.Journal.{bodyLength, entryLength, kindAt, bodyAt, Run, runOf, stepAs, stepOf, replayFrom, zeros, rebuilt}
-use Rattle.batch.specs.History.{Action, Addition, Amendment, Cancellation, kindOf, bodyOf, recordsAfter, recordsFrom, recordsOf, actionRule, printed, linesOf, entryOf, entriesOf}
+use Rattle.batch.specs.History.{Action, Addition, Amendment, Cancellation, kindOf, bodyOf, recordsAfter, recordsFrom, recordsOf, actionRule, zeroFilled, linesOf, entryOf, entriesOf}
 use Rattle.batch.proofs.Sheets.{Sheet, sheet-none, sheet-step, held-step, fits-step}
 use Rattle.batch.proofs.Views.{answer-view, file-view}
 
@@ -73,16 +73,16 @@ step-known file j end held used kind body ek some eb z = rw (ek, ne-eqb kind 0 s
 
 module _ (n : ℕ) (recs : List (List ℕ)) (s : Sheet recs) (fits : length recs * 401 ≤ n) (a : Action) (ok : Accepts n recs a) where
   pub step-view : (j : List ℕ) (end u : ℕ) → kindAt j end u ≡ kindOf a → bodyAt j u (kindOf a) ≡ bodyOf a
-      → stepOf (printed n (linesOf recs)) j end (length recs) u ≡ runOf true (length (recordsAfter recs a)) (u + length (entryOf a)) u (printed n (linesOf (recordsAfter recs a)))
+      → stepOf (zeroFilled n (linesOf recs)) j end (length recs) u ≡ runOf true (length (recordsAfter recs a)) (u + length (entryOf a)) u (zeroFilled n (linesOf (recordsAfter recs a)))
   step-view j end u ek eb =
       let long = entry-long a (ok .sized) in
-      let met : actionAnswer (printed n (linesOf recs)) (length recs) (kindOf a) (bodyOf a) .code ≡ 0 = rw (answer-view n recs s fits a) (ok .rule) in
-      step-known (printed n (linesOf recs)) j end (length recs) u (kindOf a) (bodyOf a) ek (kind-some a) eb met
+      let met : actionAnswer (zeroFilled n (linesOf recs)) (length recs) (kindOf a) (bodyOf a) .code ≡ 0 = rw (answer-view n recs s fits a) (ok .rule) in
+      step-known (zeroFilled n (linesOf recs)) j end (length recs) u (kindOf a) (bodyOf a) ek (kind-some a) eb met
       ∙ (λ i. runOf true (held-step recs a i) (u + sym long i) u (file-view n recs s fits a (ok .rule) i))
 
   pub step-acts : (pre rest : List ℕ) (end : ℕ) → length pre + length (entryOf a) ≤ end
-      → stepOf (printed n (linesOf recs)) (pre ++ (entryOf a ++ rest)) end (length recs) (length pre)
-      ≡ runOf true (length (recordsAfter recs a)) (length pre + length (entryOf a)) (length pre) (printed n (linesOf (recordsAfter recs a)))
+      → stepOf (zeroFilled n (linesOf recs)) (pre ++ (entryOf a ++ rest)) end (length recs) (length pre)
+      ≡ runOf true (length (recordsAfter recs a)) (length pre + length (entryOf a)) (length pre) (zeroFilled n (linesOf (recordsAfter recs a)))
   step-acts pre rest end h =
       let long = entry-long a (ok .sized) in
       step-view (pre ++ (entryOf a ++ rest)) end (length pre) (kind-here pre rest a (ok .sized) end (omega arith)) (body-here pre rest a (ok .sized))
@@ -115,12 +115,12 @@ unfolding replayFrom
 replay-done k j end r h = rw (le-ltb (r .walk .used) end h)
 
 pub replay-acts : (k n : ℕ) (pre : List ℕ) (xs : List Action) (tail : List ℕ) (recs : List (List ℕ)) (v : ℕ) → Sheet recs → length recs * 401 ≤ n → length xs < k → Ok n recs xs
-    → replayFrom k (pre ++ (entriesOf xs ++ tail)) (length pre + length (entriesOf xs)) (runOf true (length recs) (length pre) v (printed n (linesOf recs)))
-    ≡ runOf true (length (recordsFrom recs xs)) (length pre + length (entriesOf xs)) (lastFrom (length pre) v xs) (printed n (linesOf (recordsFrom recs xs)))
+    → replayFrom k (pre ++ (entriesOf xs ++ tail)) (length pre + length (entriesOf xs)) (runOf true (length recs) (length pre) v (zeroFilled n (linesOf recs)))
+    ≡ runOf true (length (recordsFrom recs xs)) (length pre + length (entriesOf xs)) (lastFrom (length pre) v xs) (zeroFilled n (linesOf (recordsFrom recs xs)))
 replay-acts zero n pre xs tail recs v s f h o = absurd (omega arith)
 replay-acts (suc k) n pre [] tail recs v s f h o =
-    replay-done k (pre ++ tail) (length pre + 0) (runOf true (length recs) (length pre) v (printed n (linesOf recs))) (omega arith)
-    ∙ ap (λ (u : ℕ). runOf true (length recs) u v (printed n (linesOf recs))) (sym (add-zero (length pre)))
+    replay-done k (pre ++ tail) (length pre + 0) (runOf true (length recs) (length pre) v (zeroFilled n (linesOf recs))) (omega arith)
+    ∙ ap (λ (u : ℕ). runOf true (length recs) u v (zeroFilled n (linesOf recs))) (sym (add-zero (length pre)))
 replay-acts (suc k) n pre (a ∷ xs) tail recs v s f h o =
     let le : length (entriesOf (a ∷ xs)) ≡ length (entryOf a) + length (entriesOf xs) = length-entries a xs in
     let some = entry-some a in
@@ -130,8 +130,8 @@ replay-acts (suc k) n pre (a ∷ xs) tail recs v s f h o =
     let end : length pre + length (entriesOf (a ∷ xs)) ≡ length (pre ++ entryOf a) + length (entriesOf xs) = omega arith in
     let st = step-acts n recs s f a (o .0) pre (entriesOf xs ++ tail) (length pre + length (entriesOf (a ∷ xs))) (omega arith) in
     let ih = replay-acts k n (pre ++ entryOf a) xs tail (recordsAfter recs a) (length pre) (sheet-step recs (n / 401) a s (o .0 .rule)) (fits-step n recs a f (o .0 .rule)) (omega arith) (o .1) in
-    ap (λ (j : List ℕ). replayFrom (suc k) j (length pre + length (entriesOf (a ∷ xs))) (runOf true (length recs) (length pre) v (printed n (linesOf recs)))) jₐ
-    ∙ replay-turn k (pre ++ (entryOf a ++ (entriesOf xs ++ tail))) (length pre + length (entriesOf (a ∷ xs))) (runOf true (length recs) (length pre) v (printed n (linesOf recs))) _ (omega arith) st refl
+    ap (λ (j : List ℕ). replayFrom (suc k) j (length pre + length (entriesOf (a ∷ xs))) (runOf true (length recs) (length pre) v (zeroFilled n (linesOf recs)))) jₐ
+    ∙ replay-turn k (pre ++ (entryOf a ++ (entriesOf xs ++ tail))) (length pre + length (entriesOf (a ∷ xs))) (runOf true (length recs) (length pre) v (zeroFilled n (linesOf recs))) _ (omega arith) st refl
     ∙ rw (jₑ, end, ← lp) ih
 
 -- ---- one action more
@@ -165,9 +165,9 @@ fits-of n recs [] f o = f
 fits-of n recs (a ∷ xs) f o = fits-of n (recordsAfter recs a) xs (fits-step n recs a f (o .0 .rule)) (o .1)
 
 pub rebuilt-is : (n : ℕ) (xs : List Action) (tail : List ℕ) → Ok n [] xs
-    → rebuilt n (entriesOf xs ++ tail) (length (entriesOf xs)) ≡ runOf true (length (recordsOf xs)) (length (entriesOf xs)) (lastFrom 0 0 xs) (printed n (linesOf (recordsOf xs)))
+    → rebuilt n (entriesOf xs ++ tail) (length (entriesOf xs)) ≡ runOf true (length (recordsOf xs)) (length (entriesOf xs)) (lastFrom 0 0 xs) (zeroFilled n (linesOf (recordsOf xs)))
 rebuilt-is n xs tail o =
     let f = few-entries xs in
-    let none : zeros n ≡ printed n [] = ap zeros (sym (sub-zero n)) in
+    let none : zeros n ≡ zeroFilled n [] = ap zeros (sym (sub-zero n)) in
     ap (λ (t : List ℕ). replayFrom (suc (length (entriesOf xs))) (entriesOf xs ++ tail) (length (entriesOf xs)) (runOf true 0 0 0 t)) none
     ∙ rw zero-add at (replay-acts (suc (length (entriesOf xs))) n [] xs tail [] 0 sheet-none (omega arith) (omega arith) o)

@@ -9,16 +9,16 @@ use lib.ListN.{length, getD, take, drop, length-append}
 use lib.Seq.{split-at, set-split}
 use Rattle.layout.specs.Layout.{fieldOf}
 use Rattle.fields.proofs.OtherLaws.{live-exactly, cancelled-exactly}
-use Rattle.record.proofs.Status.{posting-passes, withdrawn-status}
+use Rattle.record.proofs.Status.{posting-passes, cancelled-rec-status}
 use Rattle.posting.specs.declared.Totals.{Totals}
 use Rattle.posting.specs.File.{recordAt, lineAnswer, totals, withRecord, totalsOver, recordsIn, fileAnswer, passed}
-use Rattle.posting.specs.Sums.{totalsOf}
+use Rattle.posting.specs.Sums.{cashIn, priceIn, totalsOf}
 use Rattle.posting.proofs.Lines.{RightLine, line-right-exactly}
 use Rattle.posting.proofs.FirstBreak.{no-break, outcome-exactly}
-use Rattle.batch.specs.Actions.{idOf, placeOf, cashOf, priceOf, oneLiveMore, oneCancelled, amountsReplaced}
+use Rattle.batch.specs.Actions.{idOf, placeOf, oneLiveMore, oneCancelled, amountsReplaced}
 use Rattle.batch.specs.Journal.{zeros}
 use Rattle.batch.specs.Batch.{batchOf, countsOf, actionTotals}
-use Rattle.batch.specs.History.{Action, Addition, Amendment, Cancellation, kindOf, bodyOf, isWithdrawn, withdrawn, hasId, withdrawnFor, isCancelledThere, recordsAfter, actionRule, printed, linesOf}
+use Rattle.batch.specs.History.{Action, Addition, Amendment, Cancellation, kindOf, bodyOf, isCancelledRec, cancelledRec, hasId, cancelledFor, isCancelledThere, recordsAfter, actionRule, zeroFilled, linesOf}
 use Rattle.batch.proofs.Rows.{changed}
 use Rattle.batch.proofs.PrintedLines.{ended-there, totals-there}
 use Rattle.batch.proofs.Sheets.{Sheet, adds, amends, cancels}
@@ -26,7 +26,7 @@ use Rattle.batch.proofs.Views.{long-of, lines-long, cancelled-there, ch
 use Rattle.batch.proofs.OneMore.{totals-more}
 
 -- ---- one record more, replaced or cancelled, in the totals
-live-more : (t : Totals) (rec : List ℕ) → fieldOf rec 19 ≡ 32 ∷ 32 ∷ [] → withRecord t rec ≡ oneLiveMore t (cashOf rec) (priceOf rec)
+live-more : (t : Totals) (rec : List ℕ) → fieldOf rec 19 ≡ 32 ∷ 32 ∷ [] → withRecord t rec ≡ oneLiveMore t (cashIn rec) (priceIn rec)
 unfolding withRecord
 live-more t rec blank = let status = live-exactly (fieldOf rec 19) .1 blank in rw status
 
@@ -44,12 +44,12 @@ replaced t d p d′ p′ = rw (off (t .cash .0) d, off (t .price .0) p)
 struck : (t : Totals) (d p : ℕ) → oneCancelled (oneLiveMore t d p) d p ≡ totals (t .live) (t .cancelled + 1) (t .cash .0) (t .price .0)
 struck t d p = rw (off (t .live) 1, off (t .cash .0) d, off (t .price .0) p)
 
-module _ (t rest : Totals) (x old : List ℕ) (there : x ≡ old) (before : t ≡ oneLiveMore rest (cashOf old) (priceOf old)) where
-  amended : (rec : List ℕ) → amountsReplaced t (cashOf x) (priceOf x) (cashOf rec) (priceOf rec) ≡ oneLiveMore rest (cashOf rec) (priceOf rec)
-  amended rec = rw (there, before) (replaced rest (cashOf old) (priceOf old) (cashOf rec) (priceOf rec))
+module _ (t rest : Totals) (x old : List ℕ) (there : x ≡ old) (before : t ≡ oneLiveMore rest (cashIn old) (priceIn old)) where
+  amended : (rec : List ℕ) → amountsReplaced t (cashIn x) (priceIn x) (cashIn rec) (priceIn rec) ≡ oneLiveMore rest (cashIn rec) (priceIn rec)
+  amended rec = rw (there, before) (replaced rest (cashIn old) (priceIn old) (cashIn rec) (priceIn rec))
 
-  cancelled : oneCancelled t (cashOf x) (priceOf x) ≡ totals (rest .live) (rest .cancelled + 1) (rest .cash .0) (rest .price .0)
-  cancelled = rw (there, before) (struck rest (cashOf old) (priceOf old))
+  cancelled : oneCancelled t (cashIn x) (priceIn x) ≡ totals (rest .live) (rest .cancelled + 1) (rest .cash .0) (rest .price .0)
+  cancelled = rw (there, before) (struck rest (cashIn old) (priceIn old))
 
 -- ---- the totals around the record that is touched
 module _ (recs : List (List ℕ)) (s : Sheet recs) (t id : List ℕ) (m : Touched recs s t id) (live : isCancelledThere recs id ≡ false) where
@@ -68,10 +68,10 @@ module _ (recs : List (List ℕ)) (s : Sheet recs) (t id : List ℕ) (m : Touche
 
   blank : fieldOf old 19 ≡ 32 ∷ 32 ∷ []
   blank =
-      let status : isWithdrawn old ≡ false = sym (cancelled-there recs s id (m .place) (m .within) (m .its)) ∙ live in
+      let status : isCancelledRec old ≡ false = sym (cancelled-there recs s id (m .place) (m .within) (m .its)) ∙ live in
       rw status at (s .each (m .place) (m .within) .status)
 
-  totals-before : totalsOf recs ≡ oneLiveMore rest (cashOf old) (priceOf old)
+  totals-before : totalsOf recs ≡ oneLiveMore rest (cashIn old) (priceIn old)
   totals-before =
       ap totalsOf (split-at recs (m .place) [] (m .within)) ∙ totals-more (take (m .place) recs) old (drop (suc (m .place)) recs) ∙ live-more rest old blank
 
@@ -81,24 +81,24 @@ module _ (recs : List (List ℕ)) (s : Sheet recs) (t id : List ℕ) (m : Touche
       ∙ totals-more (take (m .place) recs) (new old) (drop (suc (m .place)) recs)
 
   amend-step : (rec : List ℕ) → fieldOf rec 19 ≡ 32 ∷ 32 ∷ []
-      → amountsReplaced (totalsOf recs) (cashOf sought) (priceOf sought) (cashOf rec) (priceOf rec) ≡ totalsOf (map (changed (hasId id) (λ r. rec)) recs)
+      → amountsReplaced (totalsOf recs) (cashIn sought) (priceIn sought) (cashIn rec) (priceIn rec) ≡ totalsOf (map (changed (hasId id) (λ r. rec)) recs)
   amend-step rec clear = amended (totalsOf recs) rest sought old sought-is totals-before rec ∙ sym (totals-after (λ r. rec) ∙ live-more rest rec clear)
 
-  cancel-step : oneCancelled (totalsOf recs) (cashOf sought) (priceOf sought) ≡ totalsOf (map (withdrawnFor id) recs)
+  cancel-step : oneCancelled (totalsOf recs) (cashIn sought) (priceIn sought) ≡ totalsOf (map (cancelledFor id) recs)
   cancel-step =
       cancelled (totalsOf recs) rest sought old sought-is totals-before
-      ∙ sym (totals-after withdrawn ∙ cancelled-more rest (withdrawn old) (withdrawn-status old (s .each (m .place) (m .within) .long)))
+      ∙ sym (totals-after cancelledRec ∙ cancelled-more rest (cancelledRec old) (cancelled-rec-status old (s .each (m .place) (m .within) .long)))
 
 -- ---- the totals of a batch, and what an action makes of them
 module _ (n : ℕ) (recs : List (List ℕ)) (s : Sheet recs) where
   abbrev behind : List ℕ
   behind = zeros (n - length (linesOf recs))
 
-  pub totals-view : totalsOver (printed n (linesOf recs)) (length recs) ≡ totalsOf recs
+  pub totals-view : totalsOver (zeroFilled n (linesOf recs)) (length recs) ≡ totalsOf recs
   totals-view = totals-there recs behind (long-of recs s)
 
   pub totals-step : (journal : List ℕ) (used : ℕ) (a : Action) → actionRule recs (n / 401) a .code ≡ 0
-      → actionTotals (batchOf (printed n (linesOf recs)) journal (countsOf (totalsOf recs) (length recs) used)) (kindOf a) (bodyOf a) ≡ totalsOf (recordsAfter recs a)
+      → actionTotals (batchOf (zeroFilled n (linesOf recs)) journal (countsOf (totalsOf recs) (length recs) used)) (kindOf a) (bodyOf a) ≡ totalsOf (recordsAfter recs a)
   totals-step journal used (Addition rec) z =
       let p = posting-passes rec (adds recs (n / 401) rec z .passes) in
       let all : recs ++ [] ≡ recs = append-nil recs in

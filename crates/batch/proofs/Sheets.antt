@@ -14,9 +14,9 @@ use Rattle.text.proofs.Lists.{same-exactly}
 use Rattle.ident.specs.Identifier.{rightId}
 use Rattle.layout.specs.Layout.{fieldOf}
 use Rattle.record.specs.Rules.{recordAnswer}
-use Rattle.record.proofs.Status.{posting-passes, withdrawn-long, withdrawn-others, withdrawn-status, withdrawn-passes}
+use Rattle.record.proofs.Status.{posting-passes, cancelled-rec-long, cancelled-rec-others, cancelled-rec-status, cancelled-rec-passes}
 use Rattle.batch.specs.Actions.{idOf, actionHeld}
-use Rattle.batch.specs.History.{Action, Addition, Amendment, Cancellation, kindOf, isWithdrawn, withdrawn, hasId, replacedBy, withdrawnFor, isPresent, isCancelledThere, liveRule, recordsAfter, actionRule}
+use Rattle.batch.specs.History.{Action, Addition, Amendment, Cancellation, kindOf, isCancelledRec, cancelledRec, hasId, replacedBy, cancelledFor, isPresent, isCancelledThere, liveRule, recordsAfter, actionRule}
 use Rattle.batch.proofs.JournalWays.{or-both}
 use Rattle.batch.proofs.Rows.{length-last, PlaceIn, earlier, last, place-in, length-map, map-nth, none-at}
 
@@ -24,7 +24,7 @@ use Rattle.batch.proofs.Rows.{length-last, PlaceIn, earlier, last, plac
 -- a record as it may stand in a batch: 399 bytes that keep the table, status blank or "0 "
 pub record Kept (rec : List ℕ) : Type 0 where
   pub long : length rec ≡ 399
-  pub status : fieldOf rec 19 ≡ cond (isWithdrawn rec) (48 ∷ 32 ∷ []) (32 ∷ 32 ∷ [])
+  pub status : fieldOf rec 19 ≡ cond (isCancelledRec rec) (48 ∷ 32 ∷ []) (32 ∷ 32 ∷ [])
   pub passes : recordAnswer false rec .code ≡ 0
 
 -- such records, no two with one identifier
@@ -96,11 +96,11 @@ kept-posting rec z =
     let p = posting-passes rec z in
     record { long = p .0; status = p .1 ∙ rw (p .1); passes = p .2 }
 
-kept-withdrawn : (rec : List ℕ) → Kept rec → Kept (withdrawn rec)
+kept-cancelled : (rec : List ℕ) → Kept rec → Kept (cancelledRec rec)
 unfolding sameBytes
-kept-withdrawn rec k =
-    let e = withdrawn-status rec (k .long) in
-    record { long = withdrawn-long rec ∙ k .long; status = e ∙ rw e; passes = withdrawn-passes rec (k .long) (k .passes) }
+kept-cancelled rec k =
+    let e = cancelled-rec-status rec (k .long) in
+    record { long = cancelled-rec-long rec ∙ k .long; status = e ∙ rw e; passes = cancelled-rec-passes rec (k .long) (k .passes) }
 
 -- one record more, with a new identifier
 sheet-last : (recs : List (List ℕ)) (rec : List ℕ) → Sheet recs → Kept rec → isPresent recs (idOf rec) ≡ false → Sheet (recs ++ rec ∷ [])
@@ -148,18 +148,18 @@ module _ (new : List ℕ) (k : Kept new) where
       go false e = refl
 
 module _ (id : List ℕ) where
-  cancelled-kept : (rec : List ℕ) → Kept rec → Kept (withdrawnFor id rec)
+  cancelled-kept : (rec : List ℕ) → Kept rec → Kept (cancelledFor id rec)
   cancelled-kept rec l = go (hasId id rec)
     where
-      go : (t : Bool) → Kept (cond t (withdrawn rec) rec)
-      go true = kept-withdrawn rec l
+      go : (t : Bool) → Kept (cond t (cancelledRec rec) rec)
+      go true = kept-cancelled rec l
       go false = l
 
-  cancelled-id : (rec : List ℕ) → Kept rec → idOf (withdrawnFor id rec) ≡ idOf rec
+  cancelled-id : (rec : List ℕ) → Kept rec → idOf (cancelledFor id rec) ≡ idOf rec
   cancelled-id rec l = go (hasId id rec)
     where
-      go : (t : Bool) → idOf (cond t (withdrawn rec) rec) ≡ idOf rec
-      go true = withdrawn-others rec 1 (λ e. omega (arith, e))
+      go : (t : Bool) → idOf (cond t (cancelledRec rec) rec) ≡ idOf rec
+      go true = cancelled-rec-others rec 1 (λ e. omega (arith, e))
       go false = refl
 
 pub sheet-step : (recs : List (List ℕ)) (places : ℕ) (a : Action) → Sheet recs → actionRule recs places a .code ≡ 0 → Sheet (recordsAfter recs a)
@@ -167,14 +167,14 @@ sheet-step recs places (Addition rec) s z = let p = adds recs places rec z in sh
 sheet-step recs places (Amendment rec) s z =
     let k = kept-posting rec (amends recs places rec z .0) in
     sheet-map recs (replacedBy rec) s (replaced-kept rec k) (replaced-id rec k)
-sheet-step recs places (Cancellation id) s z = sheet-map recs (withdrawnFor id) s (cancelled-kept id) (cancelled-id id)
+sheet-step recs places (Cancellation id) s z = sheet-map recs (cancelledFor id) s (cancelled-kept id) (cancelled-id id)
 
 pub held-step : (recs : List (List ℕ)) (a : Action) → actionHeld (length recs) (kindOf a) ≡ length (recordsAfter recs a)
 held-step recs (Addition rec) = sym (length-last recs rec)
 held-step recs (Amendment rec) = sym (length-map (replacedBy rec) recs)
-held-step recs (Cancellation id) = sym (length-map (withdrawnFor id) recs)
+held-step recs (Cancellation id) = sym (length-map (cancelledFor id) recs)
 
 pub fits-step : (n : ℕ) (recs : List (List ℕ)) (a : Action) → length recs * 401 ≤ n → actionRule recs (n / 401) a .code ≡ 0 → length (recordsAfter recs a) * 401 ≤ n
 fits-step n recs (Addition rec) f z = omega (arith, adds recs (n / 401) rec z .room, length-last recs rec)
 fits-step n recs (Amendment rec) f z = omega (arith, length-map (replacedBy rec) recs)
-fits-step n recs (Cancellation id) f z = omega (arith, length-map (withdrawnFor id) recs)
+fits-step n recs (Cancellation id) f z = omega (arith, length-map (cancelledFor id) recs)

@@ -11,10 +11,10 @@ use lib.Seq.{take-at, drop-at, take-append-seam, length-take-le}
 use Rattle.text.specs.declared.Answer.{Answer}
 use Rattle.text.specs.Lists.{overlay}
 use Rattle.text.proofs.Lists.{same-exactly}
-use Rattle.batch.specs.Actions.{idOf, lineOf, withLine, placeOf, actionFile}
+use Rattle.batch.specs.Actions.{idOf, withLine, placeOf, actionFile}
 use Rattle.batch.specs.Journal.{zeros}
 use Rattle.batch.specs.Batch.{Batch, Amend, rightLengths, sound, answerTo, entered, after}
-use Rattle.batch.specs.History.{Action, Amendment, printed, linesOf, recordsOf, entriesOf, rules, made, AmendsOnePlace, GoodFileOf}
+use Rattle.batch.specs.History.{Action, Amendment, zeroFilled, linesOf, recordsOf, entriesOf, rules, made, AmendsOnePlace, GoodFileOf}
 use Rattle.batch.proofs.GuardWays.{lengths-bounded}
 use Rattle.batch.proofs.Sheets.{amends}
 use Rattle.batch.proofs.Views.{lines-long, id-view, Touched, touched}
@@ -32,7 +32,7 @@ sheet-file n m bound xs st =
     record {
       records = recordsOf xs;
       many = refl;
-      bytes = ap (λ (k : ℕ). printed k (linesOf (recordsOf xs))) (sym (file-long n m xs st));
+      bytes = ap (λ (k : ℕ). zeroFilled k (linesOf (recordsOf xs))) (sym (file-long n m xs st));
       cut = take-at (linesOf (recordsOf xs)) (zeros (n - length (linesOf (recordsOf xs)))) (length (recordsOf xs) * 401) (lines-long (recordsOf xs) s);
       passes = file-passes (recordsOf xs) s (omega arith);
     }
@@ -60,7 +60,7 @@ module _ (s p : List ℕ) (a : ℕ) (h : a ≤ length s) where
 
 module _ (n m : ℕ) (xs : List Action) (st : Stands n m xs) where
   abbrev file : List ℕ
-  file = printed n (linesOf (recordsOf xs))
+  file = zeroFilled n (linesOf (recordsOf xs))
 
   abbrev behind : List ℕ
   behind = zeros (n - length (linesOf (recordsOf xs)))

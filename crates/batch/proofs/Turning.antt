@@ -15,9 +15,9 @@ use Rattle.text.specs.Lists.{overlay}
 use Rattle.posting.specs.File.{totalsOver}
 use Rattle.posting.specs.Sums.{kept, totalsOf}
 use Rattle.batch.specs.Journal.{entryLength, Run, runOf, zeros, rebuilt}
-use Rattle.batch.specs.Batch.{Batch, batchOf, noCounts, Call, Open, Add, Amend, Cancel, Undo, rightLengths, ready, entryAnswer, workAnswer, answerTo, entered, latest, undone, opened, done, kept as unchanged, after}
-use Rattle.batch.specs.History.{Action, Addition, Amendment, Cancellation, kindOf, bodyOf, recordsAfter, recordsOf, entryRule, undoRule, rules, printed, linesOf, entryOf, entriesOf, made, withoutLatest, standingAfter}
-use Rattle.batch.proofs.PrintedLines.{printed-more, printed-less}
+use Rattle.batch.specs.Batch.{Batch, batchOf, noCounts, Call, Open, Add, Amend, Cancel, Undo, rightLengths, ready, entryAnswer, workAnswer, answerTo, entered, latest, undone, opened, done, unchanged, after}
+use Rattle.batch.specs.History.{Action, Addition, Amendment, Cancellation, kindOf, bodyOf, recordsAfter, recordsOf, entryRule, undoRule, rules, zeroFilled, linesOf, entryOf, entriesOf, made, withoutLatest, standingAfter}
+use Rattle.batch.proofs.PrintedLines.{filled-more, filled-less}
 use Rattle.batch.proofs.Sheets.{held-step}
 use Rattle.batch.proofs.Views.{answer-view, file-view}
 use Rattle.batch.proofs.SheetTotals.{totals-view, totals-step}
@@ -87,9 +87,9 @@ module _ (n m : ℕ) (xs : List Action) (st : Stands n m xs) where
       let long = entry-long a (ok .sized) in
       let used : length (entriesOf xs) + entryLength (kindOf a) ≡ length (entriesOf (xs ++ a ∷ [])) = omega (arith, ap length entries, length-append (entriesOf xs) (entryOf a)) in
       record {
-        is = batch-eq (file-view n (recordsOf xs) sh ft a (ok .rule) ∙ ap (λ (r : List (List ℕ)). printed n (linesOf r)) recs)
-            (printed-more m (entriesOf xs) (entryOf a) ∙ ap (printed m) entries)
-            (totals-step n (recordsOf xs) sh (printed m (entriesOf xs)) (length (entriesOf xs)) a (ok .rule) ∙ ap totalsOf recs)
+        is = batch-eq (file-view n (recordsOf xs) sh ft a (ok .rule) ∙ ap (λ (r : List (List ℕ)). zeroFilled n (linesOf r)) recs)
+            (filled-more m (entriesOf xs) (entryOf a) ∙ ap (zeroFilled m) entries)
+            (totals-step n (recordsOf xs) sh (zeroFilled m (entriesOf xs)) (length (entriesOf xs)) a (ok .rule) ∙ ap totalsOf recs)
             (held-step (recordsOf xs) a ∙ ap length recs)
             used;
         stands = record { ok = ok-last n [] xs a (st .ok) ok; room = omega (arith, st .room, f .fits) };
@@ -107,10 +107,10 @@ module _ (n m : ℕ) (xs : List Action) (a : Action) (st : Stands n m (xs ++ a �
   unfolding made
   latest-is = ap (λ (r : Run). r .walk .last) (rebuilt-made n m (xs ++ a ∷ []) st) ∙ last-last 0 0 xs a ∙ zero-add (length (entriesOf xs))
 
-  journal-is : printed m (entriesOf (xs ++ a ∷ [])) ≡ entriesOf xs ++ (entryOf a ++ behind)
+  journal-is : zeroFilled m (entriesOf (xs ++ a ∷ [])) ≡ entriesOf xs ++ (entryOf a ++ behind)
   journal-is = ap (λ (e : List ℕ). e ++ behind) (entries-last xs a) ∙ append-assoc (entriesOf xs) (entryOf a) behind
 
-  rebuilt-back : rebuilt (length (full .file)) (full .journal) (latest full) ≡ runOf true (length (recordsOf xs)) (length (entriesOf xs)) (lastFrom 0 0 xs) (printed n (linesOf (recordsOf xs)))
+  rebuilt-back : rebuilt (length (full .file)) (full .journal) (latest full) ≡ runOf true (length (recordsOf xs)) (length (entriesOf xs)) (lastFrom 0 0 xs) (zeroFilled n (linesOf (recordsOf xs)))
   unfolding made
   rebuilt-back =
       ap (λ (k : ℕ). rebuilt (length (full .file)) (full .journal) k) latest-is
@@ -123,15 +123,15 @@ module _ (n m : ℕ) (xs : List Action) (a : Action) (st : Stands n m (xs ++ a �
   pub stands-back : Stands n m xs
   stands-back = record { ok = ok-front n [] xs a (st .ok); room = omega (arith, st .room, used-is) }
 
-  journal-back : overlay (full .journal) (latest full) (zeros (full .counts .used - latest full)) ≡ printed m (entriesOf xs)
+  journal-back : overlay (full .journal) (latest full) (zeros (full .counts .used - latest full)) ≡ zeroFilled m (entriesOf xs)
   unfolding made
   journal-back =
       let z : length (entriesOf (xs ++ a ∷ [])) - length (entriesOf xs) ≡ length (entryOf a) = omega (arith, used-is) in
       let h : length (entriesOf xs ++ entryOf a) ≤ m = omega (arith, st .room, used-is, length-append (entriesOf xs) (entryOf a)) in
       ap (λ (k : ℕ). overlay (full .journal) k (zeros (full .counts .used - k))) latest-is
       ∙ ap (λ (k : ℕ). overlay (full .journal) (length (entriesOf xs)) (zeros k)) z
-      ∙ ap (λ (e : List ℕ). overlay (printed m e) (length (entriesOf xs)) (zeros (length (entryOf a)))) (entries-last xs a)
-      ∙ printed-less m (entriesOf xs) (entryOf a) h
+      ∙ ap (λ (e : List ℕ). overlay (zeroFilled m e) (length (entriesOf xs)) (zeros (length (entryOf a)))) (entries-last xs a)
+      ∙ filled-less m (entriesOf xs) (entryOf a) h
 
   pub undone-is : undone full ≡ made n m xs
   unfolding made undone

@@ -12,12 +12,12 @@ use lib.Seq.{take-take, getD-take, getD-drop}
 use Rattle.text.specs.Lists.{sameBytes, overlay}
 use Rattle.text.proofs.Booleans.{clash}
 use Rattle.text.proofs.Lists.{same-exactly}
-use Rattle.posting.specs.File.{recordAt, idAt}
-use Rattle.batch.specs.Actions.{seek, present, placeOf, isCancelled, idOf, liveAnswer, addAnswer, amendAnswer, cancelAnswer, lineOf, withLine, withCancelled, actionAnswer, actionFile}
+use Rattle.posting.specs.File.{lineOf, recordAt, idAt}
+use Rattle.batch.specs.Actions.{seek, present, placeOf, isCancelled, idOf, liveAnswer, addAnswer, amendAnswer, cancelAnswer, withLine, withCancelled, actionAnswer, actionFile}
 use Rattle.batch.specs.Journal.{zeros}
-use Rattle.batch.specs.History.{Action, Addition, Amendment, Cancellation, kindOf, bodyOf, hasId, isWithdrawn, withdrawn, replacedBy, withdrawnFor, isPresent, isCancelledThere, liveRule, recordsAfter, actionRule, printed, linesOf}
+use Rattle.batch.specs.History.{Action, Addition, Amendment, Cancellation, kindOf, bodyOf, hasId, isCancelledRec, cancelledRec, replacedBy, cancelledFor, isPresent, isCancelledThere, liveRule, recordsAfter, actionRule, zeroFilled, linesOf}
 use Rattle.batch.proofs.Rows.{length-map, changed, map-one, some-at, none-passes}
-use Rattle.batch.proofs.PrintedLines.{Long, printed-long, printed-more, all-lines-long, lines-last, record-there, byte-there, line-replaced, bytes-changed}
+use Rattle.batch.proofs.PrintedLines.{Long, filled-long, filled-more, all-lines-long, lines-last, record-there, byte-there, line-replaced, bytes-changed}
 use Rattle.batch.proofs.Sheets.{Sheet, id-is, status-is, amends, cancels, kept-posting, sheet-step}
 
 pub long-of : (recs : List (List ℕ)) → Sheet recs → Long recs
@@ -57,16 +57,16 @@ module _ (recs : List (List ℕ)) (s : Sheet recs) (id : List ℕ) where
     pub is-present : isPresent recs id ≡ true
     is-present = some-at (hasId id) recs k h e
 
-    pub cancelled-there : isCancelledThere recs id ≡ isWithdrawn (getD recs k [])
-    cancelled-there = go (isWithdrawn (getD recs k [])) refl
+    pub cancelled-there : isCancelledThere recs id ≡ isCancelledRec (getD recs k [])
+    cancelled-there = go (isCancelledRec (getD recs k [])) refl
       where
-        other : isWithdrawn (getD recs k []) ≡ false → (i : ℕ) → i < length recs → (b : Bool) → hasId id (getD recs i []) ≡ b → b && isWithdrawn (getD recs i []) ≡ false
+        other : isCancelledRec (getD recs k []) ≡ false → (i : ℕ) → i < length recs → (b : Bool) → hasId id (getD recs i []) ≡ b → b && isCancelledRec (getD recs i []) ≡ false
         other w i l true q = rw (only i k l h q e) w
         other w i l false q = refl
 
-        go : (w : Bool) → isWithdrawn (getD recs k []) ≡ w → isCancelledThere recs id ≡ w
-        go true w = some-at (λ rec. hasId id rec && isWithdrawn rec) recs k h (rw (e, w))
-        go false w = none-passes (λ rec. hasId id rec && isWithdrawn rec) recs (λ i l. other w i l (hasId id (getD recs i [])) refl)
+        go : (w : Bool) → isCancelledRec (getD recs k []) ≡ w → isCancelledThere recs id ≡ w
+        go true w = some-at (λ rec. hasId id rec && isCancelledRec rec) recs k h (rw (e, w))
+        go false w = none-passes (λ rec. hasId id rec && isCancelledRec rec) recs (λ i l. other w i l (hasId id (getD recs i [])) refl)
 
     pub changed-there : (new : List ℕ → List ℕ) → map (changed (hasId id) new) recs ≡ set recs k (new (getD recs k []))
     changed-there new = map-one (hasId id) new recs k [] h e (λ i l q. only i k l h q e)
@@ -82,13 +82,13 @@ module _ (recs : List (List ℕ)) (s : Sheet recs) (t : List ℕ) where
       ∙ sym (id-is (getD recs i []) (s .each i h .long))
 
   -- the first byte of the status tells a cancelled record
-  pub cancelled-view : (i : ℕ) → i < length recs → isCancelled (linesOf recs ++ t) i ≡ isWithdrawn (getD recs i [])
+  pub cancelled-view : (i : ℕ) → i < length recs → isCancelled (linesOf recs ++ t) i ≡ isCancelledRec (getD recs i [])
   cancelled-view i h =
       let rec = getD recs i [] in
       let k = s .each i h in
-      let byte : getD rec 340 0 ≡ getD (cond (isWithdrawn rec) (48 ∷ 32 ∷ []) (32 ∷ 32 ∷ [])) 0 0 =
+      let byte : getD rec 340 0 ≡ getD (cond (isCancelledRec rec) (48 ∷ 32 ∷ []) (32 ∷ 32 ∷ [])) 0 0 =
       sym (getD-drop 340 rec 0 0) ∙ sym (getD-take 2 (drop 340 rec) 0 0 (omega arith)) ∙ ap (λ (y : List ℕ). getD y 0 0) (sym (status-is rec (k .long)) ∙ k .status) in
-      ap (λ (b : ℕ). eqb b 48) (byte-there recs t i (long-of recs s) h 340 (omega arith) ∙ byte) ∙ go (isWithdrawn rec)
+      ap (λ (b : ℕ). eqb b 48) (byte-there recs t i (long-of recs s) h 340 (omega arith) ∙ byte) ∙ go (isCancelledRec rec)
     where
       go : (w : Bool) → eqb (getD (cond w (48 ∷ 32 ∷ []) (32 ∷ 32 ∷ [])) 0 0) 48 ≡ w
       go true = refl
@@ -141,51 +141,51 @@ module _ (n : ℕ) (recs : List (List ℕ)) (s : Sheet recs) (fits : length recs
   abbrev behind : List ℕ
   behind = zeros (n - length (linesOf recs))
 
-  room-view : leb (length recs * 401 + 401) (length (printed n (linesOf recs))) ≡ ltb (length recs) (n / 401)
+  room-view : leb (length recs * 401 + 401) (length (zeroFilled n (linesOf recs))) ≡ ltb (length recs) (n / 401)
   room-view = go (ltb (length recs) (n / 401)) refl
     where
-      long : length (printed n (linesOf recs)) ≡ n
-      long = printed-long n (linesOf recs) (omega (arith, lines-long recs s))
+      long : length (zeroFilled n (linesOf recs)) ≡ n
+      long = filled-long n (linesOf recs) (omega (arith, lines-long recs s))
 
-      go : (b : Bool) → ltb (length recs) (n / 401) ≡ b → leb (length recs * 401 + 401) (length (printed n (linesOf recs))) ≡ b
+      go : (b : Bool) → ltb (length recs) (n / 401) ≡ b → leb (length recs * 401 + 401) (length (zeroFilled n (linesOf recs))) ≡ b
       go true e = rw long (le-leb (length recs * 401 + 401) n (omega (arith, ltb-true (length recs) (n / 401) e)))
       go false e = rw long (lt-leb (length recs * 401 + 401) n (omega (arith, ltb-false (length recs) (n / 401) e)))
 
-  pub answer-view : (a : Action) → actionAnswer (printed n (linesOf recs)) (length recs) (kindOf a) (bodyOf a) ≡ actionRule recs (n / 401) a
+  pub answer-view : (a : Action) → actionAnswer (zeroFilled n (linesOf recs)) (length recs) (kindOf a) (bodyOf a) ≡ actionRule recs (n / 401) a
   unfolding actionAnswer addAnswer amendAnswer cancelAnswer actionRule
   answer-view (Addition rec) = rw (present-view recs s behind (idOf rec), room-view)
   answer-view (Amendment rec) = rw (live-view recs s behind (idOf rec))
   answer-view (Cancellation id) = rw (live-view recs s behind id)
 
   -- as many records, changed, with the same zeros behind them
-  same-rest : (others : List (List ℕ)) → Sheet others → length others ≡ length recs → linesOf others ++ behind ≡ printed n (linesOf others)
+  same-rest : (others : List (List ℕ)) → Sheet others → length others ≡ length recs → linesOf others ++ behind ≡ zeroFilled n (linesOf others)
   same-rest others o e =
       let z : n - length (linesOf recs) ≡ n - length (linesOf others) = omega (arith, lines-long recs s, lines-long others o) in
       ap (λ (k : ℕ). linesOf others ++ zeros k) z
 
-  added : (rec : List ℕ) → withLine (printed n (linesOf recs)) (length recs) rec ≡ printed n (linesOf (recs ++ rec ∷ []))
+  added : (rec : List ℕ) → withLine (zeroFilled n (linesOf recs)) (length recs) rec ≡ zeroFilled n (linesOf (recs ++ rec ∷ []))
   added rec =
-      ap (λ (k : ℕ). overlay (printed n (linesOf recs)) k (lineOf rec)) (sym (lines-long recs s))
-      ∙ printed-more n (linesOf recs) (lineOf rec) ∙ ap (printed n) (sym (lines-last recs rec))
+      ap (λ (k : ℕ). overlay (zeroFilled n (linesOf recs)) k (lineOf rec)) (sym (lines-long recs s))
+      ∙ filled-more n (linesOf recs) (lineOf rec) ∙ ap (zeroFilled n) (sym (lines-last recs rec))
 
   amended : (rec : List ℕ) → length rec ≡ 399 → isPresent recs (idOf rec) ≡ true
-      → withLine (printed n (linesOf recs)) (placeOf (printed n (linesOf recs)) (idOf rec) (length recs)) rec ≡ linesOf (map (replacedBy rec) recs) ++ behind
+      → withLine (zeroFilled n (linesOf recs)) (placeOf (zeroFilled n (linesOf recs)) (idOf rec) (length recs)) rec ≡ linesOf (map (replacedBy rec) recs) ++ behind
   amended rec long p =
       let m = touched recs s behind (idOf rec) p in
-      ap (λ (k : ℕ). withLine (printed n (linesOf recs)) k rec) (m .found)
+      ap (λ (k : ℕ). withLine (zeroFilled n (linesOf recs)) k rec) (m .found)
       ∙ line-replaced recs behind (m .place) (long-of recs s) (m .within) rec long
       ∙ ap (λ (others : List (List ℕ)). linesOf others ++ behind) (sym (changed-there recs s (idOf rec) (m .place) (m .within) (m .its) (λ old. rec)))
 
-  withdrew : (id : List ℕ) → isPresent recs id ≡ true
-      → withCancelled (printed n (linesOf recs)) (placeOf (printed n (linesOf recs)) id (length recs)) ≡ linesOf (map (withdrawnFor id) recs) ++ behind
-  withdrew id p =
+  cancelled-line : (id : List ℕ) → isPresent recs id ≡ true
+      → withCancelled (zeroFilled n (linesOf recs)) (placeOf (zeroFilled n (linesOf recs)) id (length recs)) ≡ linesOf (map (cancelledFor id) recs) ++ behind
+  cancelled-line id p =
       let m = touched recs s behind id p in
-      ap (λ (k : ℕ). withCancelled (printed n (linesOf recs)) k) (m .found)
+      ap (λ (k : ℕ). withCancelled (zeroFilled n (linesOf recs)) k) (m .found)
       ∙ bytes-changed recs behind (m .place) (long-of recs s) (m .within) 340 48 341 32 (omega arith) (omega arith)
-      ∙ ap (λ (others : List (List ℕ)). linesOf others ++ behind) (sym (changed-there recs s id (m .place) (m .within) (m .its) withdrawn))
+      ∙ ap (λ (others : List (List ℕ)). linesOf others ++ behind) (sym (changed-there recs s id (m .place) (m .within) (m .its) cancelledRec))
 
   pub file-view : (a : Action) → actionRule recs (n / 401) a .code ≡ 0
-      → actionFile (printed n (linesOf recs)) (length recs) (kindOf a) (bodyOf a) ≡ printed n (linesOf (recordsAfter recs a))
+      → actionFile (zeroFilled n (linesOf recs)) (length recs) (kindOf a) (bodyOf a) ≡ zeroFilled n (linesOf (recordsAfter recs a))
   unfolding actionFile
   file-view (Addition rec) z = added rec
   file-view (Amendment rec) z =
@@ -193,5 +193,5 @@ module _ (n : ℕ) (recs : List (List ℕ)) (s : Sheet recs) (fits : length recs
       amended rec (kept-posting rec (p .0) .long) (p .1)
       ∙ same-rest (recordsAfter recs (Amendment rec)) (sheet-step recs (n / 401) (Amendment rec) s z) (length-map (replacedBy rec) recs)
   file-view (Cancellation id) z =
-      withdrew id (cancels recs (n / 401) id z .0)
-      ∙ same-rest (recordsAfter recs (Cancellation id)) (sheet-step recs (n / 401) (Cancellation id) s z) (length-map (withdrawnFor id) recs)
+      cancelled-line id (cancels recs (n / 401) id z .0)
+      ∙ same-rest (recordsAfter recs (Cancellation id)) (sheet-step recs (n / 401) (Cancellation id) s z) (length-map (cancelledFor id) recs)

@@ -16,7 +16,7 @@ use Rattle.fields.specs.Amounts.{readMoney}
 use Rattle.record.specs.Columns.{orElse}
 use Rattle.record.specs.Rules.{recordAnswer}
 use Rattle.posting.specs.declared.Totals.{Totals}
-use Rattle.posting.specs.File.{recordAt, idAt, amountIn, totals}
+use Rattle.posting.specs.File.{lineOf, idAt, totals}
 
 -- ---- the consignment with an identifier
 -- one more than the place of the last of n records with this identifier; 0 where none has it
@@ -30,7 +30,8 @@ present file id held = not (eqb (seek file id held) 0)
 abbrev pub placeOf : List ℕ → List ℕ → ℕ → ℕ
 placeOf file id held = seek file id held - 1
 
--- the status of the record at a place, field 19, is "0 "
+-- the record at a place is cancelled: the first byte of its status, field 19, is "0"
+-- In a batch that passed the test the status is then "0 " (`Views: cancelled-view`).
 abbrev pub isCancelled : List ℕ → ℕ → Bool
 isCancelled file k = eqb (getD file (k * 401 + 340) 0) 48
 
@@ -55,10 +56,6 @@ unfoldable pub cancelAnswer : List ℕ → ℕ → List ℕ → Answer
 cancelAnswer file held id = cond (rightId id) (liveAnswer file held id) (answer 1 1)
 
 -- ---- what an action makes of the file
--- a record as it stands in the file, with its line end
-abbrev pub lineOf : List ℕ → List ℕ
-lineOf rec = rec ++ 13 ∷ 10 ∷ []
-
 abbrev pub withLine : List ℕ → ℕ → List ℕ → List ℕ
 withLine file k rec = overlay file (k * 401) (lineOf rec)
 
@@ -66,7 +63,7 @@ withLine file k rec = overlay file (k * 401) (lineOf rec)
 abbrev pub withCancelled : List ℕ → ℕ → List ℕ
 withCancelled file k = set (set file (k * 401 + 340) 48) (k * 401 + 341) 32
 
--- ---- kinds of entries: 1 addition, 2 cancellation, 3 amendment
+-- ---- kinds of entries: 1 addition, 2 cancellation, 3 amendment; no other is ever asked about
 unfoldable pub actionAnswer : List ℕ → ℕ → ℕ → List ℕ → Answer
 actionAnswer file held kind body =
     cond (eqb kind 1) (addAnswer file held body) (cond (eqb kind 3) (amendAnswer file held body) (cancelAnswer file held body))
@@ -80,12 +77,6 @@ abbrev pub actionHeld : ℕ → ℕ → ℕ
 actionHeld held kind = cond (eqb kind 1) (held + 1) held
 
 -- ---- and of the totals
-abbrev pub cashOf : List ℕ → ℕ
-cashOf rec = amountIn (readMoney (fieldOf rec 16))
-
-abbrev pub priceOf : List ℕ → ℕ
-priceOf rec = amountIn (readMoney (fieldOf rec 17))
-
 abbrev pub oneLiveMore : Totals → ℕ → ℕ → Totals
 oneLiveMore t d p = totals (t .live + 1) (t .cancelled) (t .cash .0 + d) (t .price .0 + p)
 

@@ -1,4 +1,4 @@
--- The calls of the open batch: one `answer` and one `after` for all of them.
+-- The calls of the open batch: one `answerTo` and one `after` for all of them.
 -- Assumes nothing.
 use Prim.Native.Nat.{ℕ, _+_, _-_, _*_, _%_}
 use mathlib.Core.Bool.{Bool, true, false, cond, _&&_}
@@ -13,8 +13,9 @@ use Rattle.text.specs.Lists.{sameBytes, overlay}
 use Rattle.record.specs.Columns.{orElse}
 use Rattle.posting.specs.declared.Totals.{Totals}
 use Rattle.posting.specs.File.{recordAt, noTotals, totalsOver}
+use Rattle.posting.specs.Sums.{cashIn, priceIn}
 use Rattle.batch.specs.declared.Counts.{Counts}
-use Rattle.batch.specs.Actions.{placeOf, idOf, actionAnswer, actionFile, actionHeld, cashOf, priceOf, oneLiveMore, oneCancelled, amountsReplaced}
+use Rattle.batch.specs.Actions.{placeOf, idOf, actionAnswer, actionFile, actionHeld, oneLiveMore, oneCancelled, amountsReplaced}
 use Rattle.batch.specs.Journal.{bodyLength, entryLength, entry, zeros, rebuilt}
 
 pub record Batch : Type 0 where
@@ -90,10 +91,10 @@ answerTo b call =
 -- the totals by what stands at the place that the action touches
 abbrev pub actionTotals : Batch → ℕ → List ℕ → Totals
 actionTotals b kind body =
-    cond (eqb kind 1) (oneLiveMore (b .counts .totals) (cashOf body) (priceOf body))
+    cond (eqb kind 1) (oneLiveMore (b .counts .totals) (cashIn body) (priceIn body))
     (cond (eqb kind 3)
-    (amountsReplaced (b .counts .totals) (cashOf (recordAt (b .file) (placeOf (b .file) (idOf body) (b .counts .held)))) (priceOf (recordAt (b .file) (placeOf (b .file) (idOf body) (b .counts .held)))) (cashOf body) (priceOf body))
-    (oneCancelled (b .counts .totals) (cashOf (recordAt (b .file) (placeOf (b .file) body (b .counts .held)))) (priceOf (recordAt (b .file) (placeOf (b .file) body (b .counts .held))))))
+    (amountsReplaced (b .counts .totals) (cashIn (recordAt (b .file) (placeOf (b .file) (idOf body) (b .counts .held)))) (priceIn (recordAt (b .file) (placeOf (b .file) (idOf body) (b .counts .held)))) (cashIn body) (priceIn body))
+    (oneCancelled (b .counts .totals) (cashIn (recordAt (b .file) (placeOf (b .file) body (b .counts .held)))) (priceIn (recordAt (b .file) (placeOf (b .file) body (b .counts .held))))))
 
 unfoldable pub entered : Batch → ℕ → List ℕ → Batch
 entered b kind body =
@@ -122,15 +123,15 @@ done b (Cancel id) = entered b 2 id
 done b Undo = undone b
 
 -- refusals change nothing and give back the counts they got; a refused opening gives zero counts
-abbrev pub kept : Batch → Call → Batch
-kept b Open = batchOf (b .file) (b .journal) noCounts
-kept b (Add rec) = b
-kept b (Amend rec) = b
-kept b (Cancel id) = b
-kept b Undo = b
+abbrev pub unchanged : Batch → Call → Batch
+unchanged b Open = batchOf (b .file) (b .journal) noCounts
+unchanged b (Add rec) = b
+unchanged b (Amend rec) = b
+unchanged b (Cancel id) = b
+unchanged b Undo = b
 
 unfoldable pub after : Batch → Call → Batch
-after b call = cond (eqb (answerTo b call .code) 0) (done b call) (kept b call)
+after b call = cond (eqb (answerTo b call .code) 0) (done b call) (unchanged b call)
 
 -- ---- what every call promises: answer, counts, file and journal at exit
 pub record Called (b : Batch) (call : Call) (r : Answer) (counts : Counts) (file journal : List ℕ) : Type 0 where

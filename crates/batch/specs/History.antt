@@ -15,9 +15,9 @@ use Rattle.layout.specs.Widths.{joined}
 use Rattle.layout.specs.Layout.{fieldOf}
 use Rattle.record.specs.Columns.{orElse}
 use Rattle.record.specs.Rules.{recordAnswer}
-use Rattle.posting.specs.File.{idAt, fileAnswer, passed}
+use Rattle.posting.specs.File.{lineOf, idAt, fileAnswer, passed}
 use Rattle.posting.specs.Sums.{totalsOf}
-use Rattle.batch.specs.Actions.{idOf, lineOf}
+use Rattle.batch.specs.Actions.{idOf}
 use Rattle.batch.specs.Journal.{bodyLength, entryLength, entry, zeros}
 use Rattle.batch.specs.Batch.{Batch, batchOf, countsOf, Call, Open, Add, Amend, Cancel, Undo, answerTo, after}
 
@@ -33,12 +33,12 @@ callOf (Amendment rec) = Amend rec
 callOf (Cancellation id) = Cancel id
 
 -- ---- the records that a list of actions makes
--- status "0 ", and whether a record has it
-abbrev pub withdrawn : List ℕ → List ℕ
-withdrawn rec = set (set rec 340 48) 341 32
+-- a record with status "0 ", and whether it has that: field 19, bytes 340 and 341
+abbrev pub cancelledRec : List ℕ → List ℕ
+cancelledRec rec = set (set rec 340 48) 341 32
 
-abbrev pub isWithdrawn : List ℕ → Bool
-isWithdrawn rec = sameBytes (fieldOf rec 19) (48 ∷ 32 ∷ [])
+abbrev pub isCancelledRec : List ℕ → Bool
+isCancelledRec rec = sameBytes (fieldOf rec 19) (48 ∷ 32 ∷ [])
 
 abbrev pub hasId : List ℕ → List ℕ → Bool
 hasId id rec = sameBytes (idOf rec) id
@@ -47,14 +47,14 @@ hasId id rec = sameBytes (idOf rec) id
 abbrev pub replacedBy : List ℕ → List ℕ → List ℕ
 replacedBy new rec = cond (hasId (idOf new) rec) new rec
 
-abbrev pub withdrawnFor : List ℕ → List ℕ → List ℕ
-withdrawnFor id rec = cond (hasId id rec) (withdrawn rec) rec
+abbrev pub cancelledFor : List ℕ → List ℕ → List ℕ
+cancelledFor id rec = cond (hasId id rec) (cancelledRec rec) rec
 
 -- add puts a record behind the last, amend replaces it where it stands, cancel sets its status
 abbrev pub recordsAfter : List (List ℕ) → Action → List (List ℕ)
 recordsAfter recs (Addition rec) = recs ++ rec ∷ []
 recordsAfter recs (Amendment rec) = map (replacedBy rec) recs
-recordsAfter recs (Cancellation id) = map (withdrawnFor id) recs
+recordsAfter recs (Cancellation id) = map (cancelledFor id) recs
 
 abbrev pub recordsFrom : List (List ℕ) → List Action → List (List ℕ)
 recordsFrom recs [] = recs
@@ -73,7 +73,7 @@ abbrev pub isPresent : List (List ℕ) → List ℕ → Bool
 isPresent recs id = some (hasId id) recs
 
 abbrev pub isCancelledThere : List (List ℕ) → List ℕ → Bool
-isCancelledThere recs id = some (λ rec. hasId id rec && isWithdrawn rec) recs
+isCancelledThere recs id = some (λ rec. hasId id rec && isCancelledRec rec) recs
 
 -- 232, 233: amend, cancel
 abbrev pub liveRule : List (List ℕ) → List ℕ → Answer
@@ -116,8 +116,8 @@ ruleFor recs places room xs (Cancel id) = entryRule recs places room (Cancellati
 ruleFor recs places room xs Undo = undoRule xs
 
 -- ---- what a list of actions makes of two buffers of n and m bytes: its records and its entries, printed one behind the other, zeros behind them
-abbrev pub printed : ℕ → List ℕ → List ℕ
-printed n s = s ++ zeros (n - length s)
+abbrev pub zeroFilled : ℕ → List ℕ → List ℕ
+zeroFilled n s = s ++ zeros (n - length s)
 
 abbrev pub linesOf : List (List ℕ) → List ℕ
 linesOf recs = joined (map lineOf recs)
@@ -130,8 +130,8 @@ entriesOf xs = joined (map entryOf xs)
 
 unfoldable pub made : ℕ → ℕ → List Action → Batch
 made n m xs =
-    batchOf (printed n (linesOf (recordsOf xs)))
-    (printed m (entriesOf xs))
+    batchOf (zeroFilled n (linesOf (recordsOf xs)))
+    (zeroFilled m (entriesOf xs))
     (countsOf (totalsOf (recordsOf xs)) (length (recordsOf xs)) (length (entriesOf xs)))
 
 -- the answer that the rules give where these actions stand
@@ -147,9 +147,9 @@ abbrev pub InTurn : ℕ → ℕ → List Action → Type 0
 InTurn n m xs = InTurnBehind n m [] xs
 
 -- ---- a run of calls: the batch that it leaves, and the answers that it gave
-abbrev pub run : Batch → List Call → Batch
-run b [] = b
-run b (call ∷ calls) = run (after b call) calls
+abbrev pub afterAll : Batch → List Call → Batch
+afterAll b [] = b
+afterAll b (call ∷ calls) = afterAll (after b call) calls
 
 abbrev pub answersOf : Batch → List Call → List Answer
 answersOf b [] = []
@@ -189,17 +189,17 @@ pub record GoodLengths (n m : ℕ) : Type 0 where
 -- What holds after any list of calls holds after each beginning of it, so `answers` speaks of every answer on the way.
 pub record History (n m : ℕ) (b : Batch) (calls : List Call) : Type 0 where
   -- file, counts and journal are, to the byte, what the standing list makes
-  pub leaves : run b calls ≡ made n m (standing calls (answersOf b calls))
+  pub leaves : afterAll b calls ≡ made n m (standing calls (answersOf b calls))
   -- its actions are acceptable in their turn, and performing them from the opening leaves the same, each answering 0
   pub inTurn : InTurn n m (standing calls (answersOf b calls))
-  pub again : run b (map callOf (standing calls (answersOf b calls))) ≡ run b calls
+  pub again : afterAll b (map callOf (standing calls (answersOf b calls))) ≡ afterAll b calls
   pub accepts : answersOf b (map callOf (standing calls (answersOf b calls))) ≡ map (λ a. accepted) (standing calls (answersOf b calls))
   -- whatever is called next is answered as the rules say
-  pub answers : (call : Call) → answerTo (run b calls) call ≡ rules n m (standing calls (answersOf b calls)) call
+  pub answers : (call : Call) → answerTo (afterAll b calls) call ≡ rules n m (standing calls (answersOf b calls)) call
 
 -- ---- a list of actions performed as calls, each answering 0
 pub record Performed (n m : ℕ) (b : Batch) (xs all : List Action) : Type 0 where
-  pub leaves : run b (map callOf xs) ≡ made n m all
+  pub leaves : afterAll b (map callOf xs) ≡ made n m all
   pub answers : answersOf b (map callOf xs) ≡ map (λ a. accepted) xs
 
 -- ---- an undo after an accepted action: it is accepted, and gives back the batch before
@@ -220,7 +220,7 @@ pub record AmendsOnePlace (b : Batch) (rec : List ℕ) (file : List ℕ) : Type 
 pub record GoodFileOf (b : Batch) : Type 0 where
   pub records : List (List ℕ)
   pub many : length records ≡ b .counts .held
-  pub bytes : b .file ≡ printed (length (b .file)) (linesOf records)
+  pub bytes : b .file ≡ zeroFilled (length (b .file)) (linesOf records)
   pub cut : take (b .counts .held * 401) (b .file) ≡ linesOf records
   pub passes : fileAnswer (linesOf records) ≡ passed (b .counts .totals)
 

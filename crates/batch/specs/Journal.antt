@@ -2,6 +2,7 @@
 -- Assumes nothing.
 use Prim.Native.Nat.{ℕ, zero, suc, _+_, _-_}
 use mathlib.Core.Bool.{Bool, true, false, cond, _&&_}
+use mathlib.Core.Path.{_≡_, refl}
 use mathlib.Core.List.{List, [], _∷_, _++_}
 use lib.ListN.{length, getD, take, drop, replicate}
 use lib.Dec.{eqb, leb, ltb}
@@ -21,6 +22,10 @@ head kind = cond (eqb kind 2) (17 ∷ 0 ∷ kind ∷ 0 ∷ []) (147 ∷ 1 ∷ ki
 
 abbrev pub entry : ℕ → List ℕ → List ℕ
 entry kind body = head kind ++ body
+
+-- example 15: cancelling BO5412345671F adds 11 00 02 00 and its 13 bytes
+pub example-15 : entry 2 (66 ∷ 79 ∷ 53 ∷ 52 ∷ 49 ∷ 50 ∷ 51 ∷ 52 ∷ 53 ∷ 54 ∷ 55 ∷ 49 ∷ 70 ∷ []) ≡ 17 ∷ 0 ∷ 2 ∷ 0 ∷ 66 ∷ 79 ∷ 53 ∷ 52 ∷ 49 ∷ 50 ∷ 51 ∷ 52 ∷ 53 ∷ 54 ∷ 55 ∷ 49 ∷ 70 ∷ []
+example-15 = refl
 
 -- these four bytes stand at `at`, and as many as `size` end by `end`
 abbrev pub headStands : List ℕ → ℕ → ℕ → ℕ → ℕ → ℕ → ℕ → Bool

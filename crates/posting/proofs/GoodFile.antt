@@ -19,7 +19,7 @@ use Rattle.record.specs.Readings.{badMoney, badStatus}
 use Rattle.record.specs.Rules.{table}
 use Rattle.record.proofs.Order.{noneBroken, accepted-exactly as record-accepted-exactly}
 use Rattle.record.proofs.Status.{none-malformed}
-use Rattle.posting.specs.File.{recordAt, passed, totalsOver, recordsIn, fileAnswer}
+use Rattle.posting.specs.File.{lineOf, recordAt, passed, totalsOver, recordsIn, fileAnswer}
 use Rattle.posting.proofs.Lines.{line-right-exactly}
 use Rattle.posting.proofs.FirstBreak.{AllRight, no-break, outcome-exactly, accepted-exactly}
 use Rattle.posting.specs.Sums.{kept, isLive, isCancelled, live, cancelled, totalsOf}
@@ -68,12 +68,8 @@ each-counted f (suc n) h =
     go l c Status.Malformed m e = absurd (m refl)
 
 -- ---- the whole file
--- a record with its line end
-abbrev pub withEnd : List ℕ → List ℕ
-withEnd rec = rec ++ 13 ∷ 10 ∷ []
-
 pub record GoodFile (file : List ℕ) (n : ℕ) : Type 0 where
-  pub bytes : file ≡ joined (map withEnd (records file n))
+  pub bytes : file ≡ joined (map lineOf (records file n))
   pub wide : (i : ℕ) → i < n → length (recordAt file i) ≡ 399
   pub keeps : (i : ℕ) → i < n → noneBroken (table false (recordAt file i)) ≡ true
   pub reads : (i : ℕ) → i < n → Readable (recordAt file i)
@@ -93,13 +89,13 @@ module _ (file : List ℕ) (z : fileAnswer file .code ≡ 0) where
   keeps-there : (i : ℕ) → i < recordsIn file → noneBroken (table false (recordAt file i)) ≡ true
   keeps-there i h = record-accepted-exactly false (recordAt file i) (wide-there i h) .0 (all-right .lines i h .table)
 
-  lines-end : (i : ℕ) → i < recordsIn file → lineAt file i ≡ withEnd (recordAt file i)
+  lines-end : (i : ℕ) → i < recordsIn file → lineAt file i ≡ lineOf (recordAt file i)
   lines-end i h = let e = all-right .lines i h .ended in line-is file i (omega (arith, whole)) ∙ rw (e .return, e .feed)
 
-  ends : map withEnd (records file (recordsIn file)) ≡ lines file (recordsIn file)
+  ends : map lineOf (records file (recordsIn file)) ≡ lines file (recordsIn file)
   ends =
-      map-upTo withEnd (recordAt file) (recordsIn file)
-      ∙ sym (upTo-same (lineAt file) (λ i. withEnd (recordAt file i)) (recordsIn file) lines-end)
+      map-upTo lineOf (recordAt file) (recordsIn file)
+      ∙ sym (upTo-same (lineAt file) (λ i. lineOf (recordAt file i)) (recordsIn file) lines-end)
 
   passes : fileAnswer file ≡ passed (totalsOver file (recordsIn file))
   passes =

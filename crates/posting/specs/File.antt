@@ -2,7 +2,7 @@
 -- Assumes nothing.
 use Prim.Native.Nat.{ℕ, zero, suc, _+_, _-_, _*_, _/_, _%_}
 use mathlib.Core.Bool.{Bool, true, false, cond, _&&_, _||_}
-use mathlib.Core.List.{List, [], _∷_}
+use mathlib.Core.List.{List, [], _∷_, _++_}
 use lib.ListN.{length, getD, take, drop}
 use lib.Dec.{eqb, leb}
 use Rattle.text.specs.declared.Answer.{Answer}
@@ -23,6 +23,10 @@ use Rattle.posting.specs.declared.Totals.{Totals}
 -- ---- records of 401 bytes: 399, then 0Dh 0Ah
 abbrev pub recordAt : List ℕ → ℕ → List ℕ
 recordAt file i = take 399 (drop (i * 401) file)
+
+-- a record with its line end
+abbrev pub lineOf : List ℕ → List ℕ
+lineOf rec = rec ++ 13 ∷ 10 ∷ []
 
 abbrev pub idAt : List ℕ → ℕ → List ℕ
 idAt file i = take 13 (drop (i * 401) file)

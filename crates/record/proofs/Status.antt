@@ -35,53 +35,53 @@ part-set-behind s a w i v h =
     ap (take w) shifted ∙ take-set-le w (drop a s) (i - a) v (omega arith)
 
 -- ---- a record with its status set to "0 "
-abbrev withdrawn : List ℕ → List ℕ
-withdrawn rec = set (set rec 340 48) 341 32
+abbrev cancelledRec : List ℕ → List ℕ
+cancelledRec rec = set (set rec 340 48) 341 32
 
-pub withdrawn-long : (rec : List ℕ) → length (set (set rec 340 48) 341 32) ≡ length rec
-withdrawn-long rec = length-set (set rec 340 48) 341 32 ∙ length-set rec 340 48
+pub cancelled-rec-long : (rec : List ℕ) → length (set (set rec 340 48) 341 32) ≡ length rec
+cancelled-rec-long rec = length-set (set rec 340 48) 341 32 ∙ length-set rec 340 48
 
 -- a field that ends before the status, and one that starts behind it
-cut-before : (rec : List ℕ) (k : ℕ) → k < 18 → cut widths (withdrawn rec) k ≡ cut widths rec k
+cut-before : (rec : List ℕ) (k : ℕ) → k < 18 → cut widths (cancelledRec rec) k ≡ cut widths rec k
 cut-before rec k h =
     let ends = no-overlap widths k 18 h (omega arith) in
     part-set-behind (set rec 340 48) (start widths k) (getD widths k 0) 341 32 (omega arith)
     ∙ part-set-behind rec (start widths k) (getD widths k 0) 340 48 (omega arith)
 
-cut-behind : (rec : List ℕ) (k : ℕ) → 18 < k → k < 26 → cut widths (withdrawn rec) k ≡ cut widths rec k
+cut-behind : (rec : List ℕ) (k : ℕ) → 18 < k → k < 26 → cut widths (cancelledRec rec) k ≡ cut widths rec k
 cut-behind rec k h g =
     let starts = no-overlap widths 18 k h g in
     part-set-before (set rec 340 48) (start widths k) (getD widths k 0) 341 32 (omega arith)
     ∙ part-set-before rec (start widths k) (getD widths k 0) 340 48 (omega arith)
 
 -- every other field stays
-pub withdrawn-others : (rec : List ℕ) (n : ℕ) → (n ≡ 19 → ⊥) → fieldOf (set (set rec 340 48) 341 32) n ≡ fieldOf rec n
+pub cancelled-rec-others : (rec : List ℕ) (n : ℕ) → (n ≡ 19 → ⊥) → fieldOf (set (set rec 340 48) 341 32) n ≡ fieldOf rec n
 unfolding fieldOf
-withdrawn-others rec n other = rw (withdrawn-long rec) (go (eqb (length rec) 399 && isField n) refl)
+cancelled-rec-others rec n other = rw (cancelled-rec-long rec) (go (eqb (length rec) 399 && isField n) refl)
   where
-    there : (b : Bool) → ltb n 19 ≡ b → isField n ≡ true → cut widths (withdrawn rec) (n - 1) ≡ cut widths rec (n - 1)
+    there : (b : Bool) → ltb n 19 ≡ b → isField n ≡ true → cut widths (cancelledRec rec) (n - 1) ≡ cut widths rec (n - 1)
     there b e f =
         let range = and-eq-true-iff (leb 1 n) (leb n 26) .0 f in
         by b e (leb-true 1 n (range .0)) (leb-true n 26 (range .1))
       where
-        by : (b : Bool) → ltb n 19 ≡ b → 1 ≤ n → n ≤ 26 → cut widths (withdrawn rec) (n - 1) ≡ cut widths rec (n - 1)
+        by : (b : Bool) → ltb n 19 ≡ b → 1 ≤ n → n ≤ 26 → cut widths (cancelledRec rec) (n - 1) ≡ cut widths rec (n - 1)
         by true e low high = let l = ltb-true n 19 e in cut-before rec (n - 1) (omega arith)
         by false e low high = let l = ltb-false n 19 e in cut-behind rec (n - 1) (omega (arith, other)) (omega arith)
 
-    go : (t : Bool) → eqb (length rec) 399 && isField n ≡ t → cond t (cut widths (withdrawn rec) (n - 1)) [] ≡ cond t (cut widths rec (n - 1)) []
+    go : (t : Bool) → eqb (length rec) 399 && isField n ≡ t → cond t (cut widths (cancelledRec rec) (n - 1)) [] ≡ cond t (cut widths rec (n - 1)) []
     go true e = there (ltb n 19) refl (and-eq-true-iff (eqb (length rec) 399) (isField n) .0 e .1)
     go false e = refl
 
 -- and the status is "0 "
-pub withdrawn-status : (rec : List ℕ) → length rec ≡ 399 → fieldOf (set (set rec 340 48) 341 32) 19 ≡ 48 ∷ 32 ∷ []
+pub cancelled-rec-status : (rec : List ℕ) → length rec ≡ 399 → fieldOf (set (set rec 340 48) 341 32) 19 ≡ 48 ∷ 32 ∷ []
 unfolding fieldOf
-withdrawn-status rec long =
-    let wide : length (withdrawn rec) ≡ 399 = withdrawn-long rec ∙ long in
+cancelled-rec-status rec long =
+    let wide : length (cancelledRec rec) ≡ 399 = cancelled-rec-long rec ∙ long in
     let one : length (set rec 340 48) ≡ 399 = length-set rec 340 48 ∙ long in
-    let first : getD (withdrawn rec) 340 0 ≡ 48 = getD-set-other (set rec 340 48) 341 340 32 0 (λ e. omega arith) ∙ getD-set-same rec 340 48 0 (omega arith) in
-    let second : getD (withdrawn rec) 341 0 ≡ 32 = getD-set-same (set rec 340 48) 341 32 0 (omega arith) in
-    let bytes : take 2 (drop 340 (withdrawn rec)) ≡ 48 ∷ 32 ∷ [] = rw (drop-cons (withdrawn rec) 340 0 (omega arith), drop-cons (withdrawn rec) 341 0 (omega arith), first, second) in
-    rw (eq-eqb (length (withdrawn rec)) 399 wide) bytes
+    let first : getD (cancelledRec rec) 340 0 ≡ 48 = getD-set-other (set rec 340 48) 341 340 32 0 (λ e. omega arith) ∙ getD-set-same rec 340 48 0 (omega arith) in
+    let second : getD (cancelledRec rec) 341 0 ≡ 32 = getD-set-same (set rec 340 48) 341 32 0 (omega arith) in
+    let bytes : take 2 (drop 340 (cancelledRec rec)) ≡ 48 ∷ 32 ∷ [] = rw (drop-cons (cancelledRec rec) 340 0 (omega arith), drop-cons (cancelledRec rec) 341 0 (omega arith), first, second) in
+    rw (eq-eqb (length (cancelledRec rec)) 399 wide) bytes
 
 -- ---- two records that differ in the status alone, under either table
 status-only : (p q : Bool) (rec new : List ℕ) → ((n : ℕ) → (n ≡ 19 → ⊥) → fieldOf new n ≡ fieldOf rec n)
@@ -144,9 +144,9 @@ posting-passes rec z =
     go Status.Malformed e long kept a = absurd (clash refl a)
 
 -- ---- a record whose status is set to "0 "
-pub withdrawn-passes : (rec : List ℕ) → length rec ≡ 399 → recordAnswer false rec .code ≡ 0 → recordAnswer false (set (set rec 340 48) 341 32) .code ≡ 0
-withdrawn-passes rec long z =
+pub cancelled-rec-passes : (rec : List ℕ) → length rec ≡ 399 → recordAnswer false rec .code ≡ 0 → recordAnswer false (set (set rec 340 48) 341 32) .code ≡ 0
+cancelled-rec-passes rec long z =
     let kept = accepted-exactly false rec long .0 z in
-    let status : badStatus false (readStatus (fieldOf (withdrawn rec) 19)) ≡ false = ap (badStatus false) (cancelled-exactly _ .1 (withdrawn-status rec long)) in
-    accepted-exactly false (withdrawn rec) (withdrawn-long rec ∙ long) .1
-    (status-only false false rec (withdrawn rec) (withdrawn-others rec) (status ∙ sym (status-allowed false rec kept)) ∙ kept)
+    let status : badStatus false (readStatus (fieldOf (cancelledRec rec) 19)) ≡ false = ap (badStatus false) (cancelled-exactly _ .1 (cancelled-rec-status rec long)) in
+    accepted-exactly false (cancelledRec rec) (cancelled-rec-long rec ∙ long) .1
+    (status-only false false rec (cancelledRec rec) (cancelled-rec-others rec) (status ∙ sym (status-allowed false rec kept)) ∙ kept)
