@@ -11,6 +11,7 @@ use lib.Seq.{take-at, drop-at, take-append-seam, length-take-le}
 use Rattle.text.specs.declared.Answer.{Answer}
 use Rattle.text.specs.Lists.{overlay}
 use Rattle.text.proofs.Lists.{same-exactly}
+use Rattle.posting.specs.File.{lineOf}
 use Rattle.batch.specs.Actions.{idOf, withLine, placeOf, actionFile}
 use Rattle.batch.specs.Journal.{zeros}
 use Rattle.batch.specs.Batch.{Batch, Amend, rightLengths, sound, answerTo, entered, after}

@@ -12,7 +12,6 @@ use Rattle.text.specs.Answers.{answer, accepted}
 use Rattle.text.specs.Lists.{sameBytes, overlay}
 use Rattle.ident.specs.Identifier.{rightId}
 use Rattle.layout.specs.Layout.{fieldOf}
-use Rattle.fields.specs.Amounts.{readMoney}
 use Rattle.record.specs.Columns.{orElse}
 use Rattle.record.specs.Rules.{recordAnswer}
 use Rattle.posting.specs.declared.Totals.{Totals}
