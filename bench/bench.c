@@ -35,20 +35,10 @@ static void compare_both(const char *what, unsigned long number, const struct it
     compare(who, number, reference_file_check, item, expected);
 }
 
-static void compare_on_vectors(const char *items_path, const char *lines_path)
+static void compare_judged(const char *path, unsigned long number, const struct item *item, const uint64_t *expected)
 {
-    FILE *items = open_or_give_up(items_path);
-    FILE *lines = open_or_give_up(lines_path);
-    struct item item;
-    unsigned long number = 0;
-    uint64_t expected[NUMBERS];
-    while (next_item(items, items_path, &item)) {
-        read_line(lines, lines_path, expected, NUMBERS);
-        compare_both("judged file", ++number, &item, expected);
-        free(item.bytes);
-    }
-    fclose(items);
-    fclose(lines);
+    (void)path;
+    compare_both("judged file", number, item, expected);
 }
 
 static void compare_on_good_file(uint8_t *file, unsigned records)
@@ -102,7 +92,7 @@ int main(int count, char **words)
     if (count != 3)
         give_up(words[0], "wants a file of items and one of their lines");
     put_good_file(file, MOST_RECORDS);
-    compare_on_vectors(words[1], words[2]);
+    ask_each(words[1], words[2], NUMBERS, compare_judged);
     for (size_t i = 0; i < sizeof sizes / sizeof sizes[0]; i++)
         compare_on_good_file(file, sizes[i]);
     if (summary("answers of the library and of C") != 0)

@@ -157,21 +157,9 @@ static void ask_made_files(void)
     ask_accepted("999 records again", file, MOST_RECORDS);
 }
 
-static void ask_vectors(const char *items_path, const char *lines_path)
+static void ask_judged(const char *path, unsigned long number, const struct item *item, const uint64_t *expected)
 {
-    FILE *items = open_or_give_up(items_path);
-    FILE *lines = open_or_give_up(lines_path);
-    struct item item;
-    unsigned long number = 0;
-    uint64_t expected[NUMBERS];
-    while (next_item(items, items_path, &item)) {
-        read_line(lines, lines_path, expected, NUMBERS);
-        ask(items_path, ++number, item.bytes, item.length, expected);
-        free(item.bytes);
-    }
-    expect_no_line(lines, lines_path);
-    fclose(items);
-    fclose(lines);
+    ask(path, number, item->bytes, item->length, expected);
 }
 
 int main(int count, char **words)
@@ -182,6 +170,6 @@ int main(int count, char **words)
     ask_no_bytes();
     ask_example_14();
     ask_made_files();
-    ask_vectors(words[1], words[2]);
+    ask_each(words[1], words[2], NUMBERS, ask_judged);
     return summary("files");
 }

@@ -40,22 +40,9 @@ static void ask_no_bytes(void)
 }
 
 /* A line of the judgement is a code and its place; the place follows from the code, and C is told the code alone. */
-static void ask_vectors(const char *items_path, const char *lines_path)
+static void ask_judged(const char *path, unsigned long number, const struct item *item, const uint64_t *code_and_place)
 {
-    FILE *items = open_or_give_up(items_path);
-    FILE *lines = open_or_give_up(lines_path);
-    struct item item;
-    unsigned long number = 0;
-    uint64_t code_and_place[2];
-    while (next_item(items, items_path, &item)) {
-        number++;
-        read_line(lines, lines_path, code_and_place, 2);
-        expect(items_path, number, fuganorezi_identifier_check(item.bytes, item.length), code_and_place[0]);
-        free(item.bytes);
-    }
-    expect_no_line(lines, lines_path);
-    fclose(items);
-    fclose(lines);
+    expect(path, number, fuganorezi_identifier_check(item->bytes, item->length), code_and_place[0]);
 }
 
 int main(int count, char **words)
@@ -64,6 +51,6 @@ int main(int count, char **words)
         give_up(words[0], "wants a file of items and one of their lines");
     ask_examples();
     ask_no_bytes();
-    ask_vectors(words[1], words[2]);
+    ask_each(words[1], words[2], 2, ask_judged);
     return summary("identifiers");
 }

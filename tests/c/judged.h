@@ -81,6 +81,28 @@ static inline void expect_no_line(FILE *lines, const char *path)
         give_up(path, "more lines than answers");
 }
 
+enum { MOST_NUMBERS = 7 };
+
+/* What is asked of an item, whose line has these numbers. */
+typedef void ask_item(const char *path, unsigned long number, const struct item *item, const uint64_t *expected);
+
+/* Asks about each item of a file; the line of each has so many numbers. */
+static inline void ask_each(const char *items_path, const char *lines_path, size_t count, ask_item *ask)
+{
+    FILE *items = open_or_give_up(items_path);
+    FILE *lines = open_or_give_up(lines_path);
+    struct item item;
+    uint64_t expected[MOST_NUMBERS];
+    for (unsigned long number = 1; next_item(items, items_path, &item); number++) {
+        read_line(lines, lines_path, expected, count);
+        ask(items_path, number, &item, expected);
+        free(item.bytes);
+    }
+    expect_no_line(lines, lines_path);
+    fclose(items);
+    fclose(lines);
+}
+
 /* Prints the summary, and gives the status to end with. */
 static inline int summary(const char *test)
 {
