@@ -20,16 +20,7 @@ pub extern "C" fn fuganorezi_file_check(bytes: &[u8], out: &mut [u64; 7]) -> u32
     ensures { λ r. ⌜ FileChecked (now (bytes .entry)) r (now (out .exit)) ⌝ }
 {
     let answer = posting::check(bytes);
-    let totals = answer.totals;
-    *out = [
-        answer.code as u64,
-        answer.number as u64,
-        answer.place as u64,
-        totals.live,
-        totals.cancelled,
-        totals.cash.0,
-        totals.price.0,
-    ];
+    *out = posting::numbers_of(answer);
     answer.code
 }
 

@@ -3,7 +3,7 @@
 use borrow.Author.Needs.{needs}
 use Prim.Native.Nat.{ℕ}
 use mathlib.Core.List.{List}
-use mathlib.Core.Path.{_≡_, ap}
+use mathlib.Core.Path.{_≡_, _∙_, ap}
 use Rattle.posting.specs.declared.FileAnswer.{FileAnswer}
 use Rattle.posting.specs.File.{fileAnswer}
 use Rattle.posting.specs.Report.{numbersOf}
@@ -11,23 +11,17 @@ use Rattle.fuganorezi.specs.Calls.{FileChecked}
 use Rattle.fuganorezi.proofs.fuganorezi_file_check.Statement.{statement}
 use Rattle.fuganorezi.proofs.fuganorezi_file_check.Tie as tie
 
-numbered : {file : List ℕ} {a : FileAnswer} → a ≡ fileAnswer file → FileChecked file (a .code) (numbersOf a)
-numbered e = record { code = ap (λ (a : FileAnswer). a .code) e; numbers = ap numbersOf e }
+numbered : {file out : List ℕ} {a : FileAnswer} → a ≡ fileAnswer file → out ≡ numbersOf a → FileChecked file (a .code) out
+numbered e n = record { code = ap (λ (a : FileAnswer). a .code) e; numbers = n ∙ ap numbersOf e }
 
 check-requires : tie.Need-check-requires
 check-requires c κs = search needs
 
-cast-t5 : tie.Need-cast-t5
-cast-t5 c = search needs
-
-cast-t6 : tie.Need-cast-t6
-cast-t6 c = search needs
-
-cast-t7 : tie.Need-cast-t7
-cast-t7 c = search needs
+numbers-of-requires : tie.Need-numbers-of-requires
+numbers-of-requires c κs = search needs
 
 returns : tie.Need-returns
 returns c = search numbered
 
 pub fuganorezi-file-check-spec : {M : Type 1} → statement M
-fuganorezi-file-check-spec = tie.close (tie.spec check-requires cast-t5 cast-t6 cast-t7 returns)
+fuganorezi-file-check-spec = tie.close (tie.spec check-requires numbers-of-requires returns)
