@@ -12,17 +12,22 @@ struct batch {
     fuganorezi_counts counts;
 };
 
+static void go_on(struct batch *b, fuganorezi_outcome outcome, const char *what)
+{
+    if (outcome.code != 0)
+        give_up(what, "was refused");
+    b->counts = outcome.counts;
+}
+
 static uint64_t time_of_addition(struct batch *b, unsigned number)
 {
     uint8_t record[GOOD_STEP];
-    uint32_t place;
     put_good_posting(record, number);
     uint64_t start = now_in_nanoseconds();
-    uint32_t code = fuganorezi_batch_add(b->file, b->file_length, b->journal, b->journal_length, &b->counts, record,
-                                         RECORD, &place);
+    fuganorezi_outcome added =
+        fuganorezi_batch_add(b->file, b->file_length, b->journal, b->journal_length, b->counts, record, RECORD);
     uint64_t end = now_in_nanoseconds();
-    if (code != 0)
-        give_up("an addition", "was refused");
+    go_on(b, added, "an addition");
     return end - start;
 }
 
@@ -30,9 +35,7 @@ static struct batch batch_of(unsigned held, size_t file_length, size_t journal_l
 {
     static uint8_t file[LONGEST_FILE], journal[LONGEST_JOURNAL];
     struct batch b = {file, journal, file_length, journal_length, {0, 0, 0, 0, 0, 0}};
-    uint32_t place;
-    if (fuganorezi_batch_open(file, file_length, journal, journal_length, &b.counts, &place) != 0)
-        give_up("an opening", "was refused");
+    go_on(&b, fuganorezi_batch_open(file, file_length, journal, journal_length), "an opening");
     for (unsigned number = 1; number <= held; number++)
         time_of_addition(&b, number);
     return b;
@@ -43,10 +46,8 @@ static double median_of_additions(unsigned held, size_t file_length, size_t jour
     struct batch b = batch_of(held, file_length, journal_length);
     uint64_t times[RUNS];
     for (int i = 0; i < RUNS; i++) {
-        uint32_t place;
         times[i] = time_of_addition(&b, held + 1);
-        if (fuganorezi_batch_undo(b.file, b.file_length, b.journal, b.journal_length, &b.counts, &place) != 0)
-            give_up("an undo", "was refused");
+        go_on(&b, fuganorezi_batch_undo(b.file, b.file_length, b.journal, b.journal_length, b.counts), "an undo");
     }
     return median(times, RUNS) / 1000;
 }

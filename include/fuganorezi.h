@@ -86,7 +86,8 @@ uint32_t fuganorezi_file_check(const uint8_t *bytes, size_t length, uint64_t out
  *          carries: an addition (403, kind 1) and an amendment (403, kind 3) the 399 bytes of the
  *          record, a cancellation (17, kind 2) the 13 of the identifier.
  *
- * The counts go in to each call and the next ones come out. They too are kept as they are.
+ * The counts go in to each call but opening, and the next ones come out with its answer. They too
+ * are kept as they are.
  */
 typedef struct fuganorezi_counts {
     uint64_t live;      /* live consignments */
@@ -98,12 +99,22 @@ typedef struct fuganorezi_counts {
 } fuganorezi_counts;
 
 /*
- * Each call answers its code and sets `*place` and `*counts`. An accepted call answers 0, place 0.
- * A refused one changes neither buffer, and the counts stay as they were; those of a refused
- * opening are set to zero.
+ * What each call answers, by value.
  *
- * The two buffers, the counts, the record or identifier, and the place share no memory with each
- * other. `counts` and `place` are not NULL.
+ * accepted: code 0 and place 0. The counts are those after the call.
+ * refused:  the code and the place below. Neither buffer is changed, and the counts are those that
+ *           went in; a refused opening gives zero counts.
+ *
+ * So the counts that come out are always those for the next call.
+ */
+typedef struct fuganorezi_outcome {
+    uint32_t code;
+    uint32_t place;
+    fuganorezi_counts counts;
+} fuganorezi_outcome;
+
+/*
+ * The two buffers and the record or identifier share no memory with each other.
  *
  * Each call but opening first makes the file anew from the whole journal and compares, so it takes
  * the longer the more the journal has. For this it needs stack: less than 400 KiB (409,600 bytes)
@@ -127,25 +138,23 @@ typedef struct fuganorezi_counts {
  */
 
 /* Sets both buffers to zero, whatever they held, and gives zero counts. */
-uint32_t fuganorezi_batch_open(uint8_t *file, size_t file_length, uint8_t *journal, size_t journal_length,
-                               fuganorezi_counts *counts, uint32_t *place);
+fuganorezi_outcome fuganorezi_batch_open(uint8_t *file, size_t file_length, uint8_t *journal, size_t journal_length);
 
 /* Puts a record, 399 bytes without line end, behind the last. */
-uint32_t fuganorezi_batch_add(uint8_t *file, size_t file_length, uint8_t *journal, size_t journal_length,
-                              fuganorezi_counts *counts, const uint8_t *record, size_t length, uint32_t *place);
+fuganorezi_outcome fuganorezi_batch_add(uint8_t *file, size_t file_length, uint8_t *journal, size_t journal_length,
+                                        fuganorezi_counts counts, const uint8_t *record, size_t length);
 
 /* Puts a record in the place of the one with the same identifier. */
-uint32_t fuganorezi_batch_amend(uint8_t *file, size_t file_length, uint8_t *journal, size_t journal_length,
-                                fuganorezi_counts *counts, const uint8_t *record, size_t length, uint32_t *place);
+fuganorezi_outcome fuganorezi_batch_amend(uint8_t *file, size_t file_length, uint8_t *journal, size_t journal_length,
+                                          fuganorezi_counts counts, const uint8_t *record, size_t length);
 
 /* Sets the status of the record with this identifier to cancelled. */
-uint32_t fuganorezi_batch_cancel(uint8_t *file, size_t file_length, uint8_t *journal, size_t journal_length,
-                                 fuganorezi_counts *counts, const uint8_t *identifier, size_t length,
-                                 uint32_t *place);
+fuganorezi_outcome fuganorezi_batch_cancel(uint8_t *file, size_t file_length, uint8_t *journal, size_t journal_length,
+                                           fuganorezi_counts counts, const uint8_t *identifier, size_t length);
 
 /* Takes back the latest action that stands, with its entry; what it freed serves the next. */
-uint32_t fuganorezi_batch_undo(uint8_t *file, size_t file_length, uint8_t *journal, size_t journal_length,
-                               fuganorezi_counts *counts, uint32_t *place);
+fuganorezi_outcome fuganorezi_batch_undo(uint8_t *file, size_t file_length, uint8_t *journal, size_t journal_length,
+                                         fuganorezi_counts counts);
 
 #ifdef __cplusplus
 }

@@ -1,6 +1,6 @@
 /*
  * The open batch from C: the paper's example 15, the judged histories, each refusal, and batches of full size.
- * Buffers, counts and bytes end where memory that cannot be read begins, and each call has the stack that the header says.
+ * Buffers and bytes end where memory that cannot be read begins, and each call has the stack that the header says.
  */
 #define _DEFAULT_SOURCE /* for fenced.h */
 #include "fenced.h"
@@ -23,26 +23,29 @@ enum {
     LINE = 2 + COUNTS + 2
 };
 
+/* What goes by value has to lie as in the archive. */
 _Static_assert(sizeof(fuganorezi_counts) == COUNTS * sizeof(uint64_t), "six numbers in a row");
+_Static_assert(offsetof(fuganorezi_outcome, place) == 4, "behind the code");
+_Static_assert(offsetof(fuganorezi_outcome, counts) == 8, "behind the place");
+_Static_assert(sizeof(fuganorezi_outcome) == 8 + sizeof(fuganorezi_counts), "and nothing more");
 
 /* The first five are numbered as in the judged histories. */
 enum op { OPEN, ADD, CANCEL, AMEND, UNDO, SPOIL_FILE, SPOIL_JOURNAL, SPOIL_COUNT };
 
-/* A batch whose counts stand before a fence too, and what its latest call answered. */
+/* A batch, and what its latest call answered. */
 struct batch {
     uint8_t *file, *journal;
     size_t file_length, journal_length;
-    fuganorezi_counts *counts;
+    fuganorezi_counts counts;
     uint32_t code, place;
 };
 
-static struct fenced file_memory, journal_memory, counts_memory, bytes_memory, stack_memory;
+static struct fenced file_memory, journal_memory, bytes_memory, stack_memory;
 
 static void make_memory(void)
 {
     file_memory = fenced_memory(LONGEST_FILE + GOOD_STEP);
     journal_memory = fenced_memory(LONGEST_JOURNAL + 1);
-    counts_memory = fenced_memory(sizeof(fuganorezi_counts));
     bytes_memory = fenced_memory(LONGEST_BYTES);
     stack_memory = fenced_memory(STACK);
 }
@@ -51,11 +54,9 @@ static void make_memory(void)
 static struct batch new_batch(size_t file_length, size_t journal_length)
 {
     struct batch b = {before_fence(file_memory, file_length), before_fence(journal_memory, journal_length), file_length,
-                      journal_length, (fuganorezi_counts *)(void *)before_fence(counts_memory, sizeof(fuganorezi_counts)),
-                      0, 0};
+                      journal_length, {0, 0, 0, 0, 0, 0}, 0, 0};
     memset(b.file, 7, file_length);
     memset(b.journal, 0, journal_length);
-    memset(b.counts, 0, sizeof *b.counts);
     return b;
 }
 
@@ -68,41 +69,48 @@ static uint64_t *count_of(fuganorezi_counts *counts, unsigned which)
     return all[which];
 }
 
+static uint64_t count_in(fuganorezi_counts counts, unsigned which)
+{
+    return *count_of(&counts, which);
+}
+
 /* Calls, on a stack of exactly the length that the header asks for. */
 
 static struct {
-    struct batch *b;
+    const struct batch *b;
     enum op op;
     const uint8_t *bytes;
     size_t length;
+    fuganorezi_outcome outcome;
 } pending;
 
 static ucontext_t caller, callee;
 
-static uint32_t call(struct batch *b, enum op op, const uint8_t *bytes, size_t length)
+static fuganorezi_outcome call(const struct batch *b, enum op op, const uint8_t *bytes, size_t length)
 {
+    static const fuganorezi_outcome none;
     uint8_t *file = b->file, *journal = b->journal;
     size_t n = b->file_length, m = b->journal_length;
     switch (op) {
     case OPEN:
-        return fuganorezi_batch_open(file, n, journal, m, b->counts, &b->place);
+        return fuganorezi_batch_open(file, n, journal, m);
     case ADD:
-        return fuganorezi_batch_add(file, n, journal, m, b->counts, bytes, length, &b->place);
+        return fuganorezi_batch_add(file, n, journal, m, b->counts, bytes, length);
     case CANCEL:
-        return fuganorezi_batch_cancel(file, n, journal, m, b->counts, bytes, length, &b->place);
+        return fuganorezi_batch_cancel(file, n, journal, m, b->counts, bytes, length);
     case AMEND:
-        return fuganorezi_batch_amend(file, n, journal, m, b->counts, bytes, length, &b->place);
+        return fuganorezi_batch_amend(file, n, journal, m, b->counts, bytes, length);
     case UNDO:
-        return fuganorezi_batch_undo(file, n, journal, m, b->counts, &b->place);
+        return fuganorezi_batch_undo(file, n, journal, m, b->counts);
     default:
         give_up("a test", "calls what is no call");
-        return 0;
+        return none;
     }
 }
 
 static void perform_pending(void)
 {
-    pending.b->code = call(pending.b, pending.op, pending.bytes, pending.length);
+    pending.outcome = call(pending.b, pending.op, pending.bytes, pending.length);
 }
 
 /* The bytes stand before a fence and cannot be written during the call. */
@@ -112,7 +120,7 @@ static void perform(struct batch *b, enum op op, const uint8_t *bytes, size_t le
     pending.op = op;
     pending.bytes = bytes == NULL ? NULL : put_before_fence(bytes_memory, bytes, length);
     pending.length = length;
-    b->place = UINT32_MAX;
+    memset(&pending.outcome, 0xff, sizeof pending.outcome); /* so that what a call leaves out is seen */
     if (getcontext(&callee) != 0)
         give_up("getcontext", "no context");
     callee.uc_stack.ss_sp = stack_memory.start;
@@ -123,6 +131,9 @@ static void perform(struct batch *b, enum op op, const uint8_t *bytes, size_t le
     if (swapcontext(&caller, &callee) != 0)
         give_up("swapcontext", "no context");
     protect(bytes_memory, PROT_READ | PROT_WRITE);
+    b->code = pending.outcome.code;
+    b->place = pending.outcome.place;
+    b->counts = pending.outcome.counts;
 }
 
 static void expect_answer(const char *what, unsigned long number, const struct batch *b, uint64_t code, uint64_t place)
@@ -138,11 +149,11 @@ static void ask_accepted(const char *what, unsigned long number, struct batch *b
     expect_answer(what, number, b, 0, 0);
 }
 
-/* A call that may refuse: if so, no byte changes and the counts stay; those of a refused opening are zero. */
+/* A call that may refuse: if so, no byte changes and the counts come back; those of a refused opening are zero. */
 static void ask(const char *what, unsigned long number, struct batch *b, enum op op, const uint8_t *bytes, size_t length)
 {
     static uint8_t file[LONGEST_FILE + GOOD_STEP], journal[LONGEST_JOURNAL + 1];
-    fuganorezi_counts counts = *b->counts;
+    fuganorezi_counts counts = b->counts;
     memcpy(file, b->file, b->file_length);
     memcpy(journal, b->journal, b->journal_length);
     perform(b, op, bytes, length);
@@ -152,7 +163,7 @@ static void ask(const char *what, unsigned long number, struct batch *b, enum op
         memset(&counts, 0, sizeof counts);
     expect(what, number, memcmp(file, b->file, b->file_length) == 0, 1);
     expect(what, number, memcmp(journal, b->journal, b->journal_length) == 0, 1);
-    expect(what, number, memcmp(&counts, b->counts, sizeof counts) == 0, 1);
+    expect(what, number, memcmp(&counts, &b->counts, sizeof counts) == 0, 1);
 }
 
 static void ask_refused(const char *what, unsigned long number, struct batch *b, enum op op, const uint8_t *bytes,
@@ -174,19 +185,19 @@ static void expect_empty(const char *what, const struct batch *b)
     static const fuganorezi_counts none;
     expect(what, 0, (uint64_t)all_zero(b->file, b->file_length), 1);
     expect(what, 1, (uint64_t)all_zero(b->journal, b->journal_length), 1);
-    expect(what, 2, memcmp(b->counts, &none, sizeof none) == 0, 1);
+    expect(what, 2, memcmp(&b->counts, &none, sizeof none) == 0, 1);
 }
 
 /* The records held are a good file with the same totals, and behind them and behind the entries are zeros. */
 static void expect_good_file(const char *what, const struct batch *b)
 {
-    size_t filled = (size_t)b->counts->held * GOOD_STEP;
+    size_t filled = (size_t)b->counts.held * GOOD_STEP;
     uint64_t out[7];
     expect(what, 0, fuganorezi_file_check(b->file, filled, out), 0);
     for (unsigned i = 0; i < 4; i++)
-        expect(what, i + 1, out[i + 3], *count_of(b->counts, i));
+        expect(what, i + 1, out[i + 3], count_in(b->counts, i));
     expect(what, 5, (uint64_t)all_zero(b->file + filled, b->file_length - filled), 1);
-    expect(what, 6, (uint64_t)all_zero(b->journal + b->counts->used, b->journal_length - b->counts->used), 1);
+    expect(what, 6, (uint64_t)all_zero(b->journal + b->counts.used, b->journal_length - b->counts.used), 1);
 }
 
 static struct batch open_batch(size_t file_length, size_t journal_length)
@@ -226,13 +237,13 @@ static void ask_example_15(void)
     put_field(record, 1, "BO5412345671F");
     ask_accepted("example 15, add", 0, &b, ADD, record, RECORD);
     ask_accepted("example 15, cancel", 0, &b, CANCEL, (const uint8_t *)"BO5412345671F", IDENTIFIER);
-    expect("example 15, used", 0, b.counts->used, ADDITION + CANCELLATION);
+    expect("example 15, used", 0, b.counts.used, ADDITION + CANCELLATION);
     expect("example 15, entry", 0, memcmp(b.journal + ADDITION, entry, CANCELLATION) == 0, 1);
     record[GOOD_STATUS] = '0';
     expect("example 15, file", 0, memcmp(b.file, record, GOOD_STEP) == 0, 1);
-    expect("example 15, live", 0, b.counts->live, 0);
-    expect("example 15, cancelled", 0, b.counts->cancelled, 1);
-    expect("example 15, cash", 0, b.counts->cash, 0);
+    expect("example 15, live", 0, b.counts.live, 0);
+    expect("example 15, cancelled", 0, b.counts.cancelled, 1);
+    expect("example 15, cash", 0, b.counts.cash, 0);
     expect_good_file("example 15", &b);
 }
 
@@ -252,10 +263,10 @@ static void ask_wrong_lengths(void)
         if (b.journal_length == 0)
             b.journal = NULL;
         for (enum op op = OPEN; op <= UNDO; op++) {
-            b.counts->live = 3;
+            b.counts.live = 3;
             perform(&b, op, NULL, 0);
             expect_answer("wrong lengths", i, &b, 235, 0);
-            expect("wrong lengths, counts", i, b.counts->live, op == OPEN ? 0 : 3);
+            expect("wrong lengths, counts", i, b.counts.live, op == OPEN ? 0 : 3);
         }
     }
 }
@@ -271,18 +282,18 @@ static void ask_spoiled(struct batch *b, const char *what, uint8_t *byte)
 
 static void ask_all_spoiled(struct batch *b)
 {
-    size_t filled = (size_t)b->counts->held * GOOD_STEP;
+    size_t filled = (size_t)b->counts.held * GOOD_STEP;
     ask_spoiled(b, "first byte of the file", b->file);
     ask_spoiled(b, "last byte of a record", b->file + filled - 1);
     ask_spoiled(b, "byte behind the records", b->file + filled);
     ask_spoiled(b, "last byte of the file", b->file + b->file_length - 1);
     ask_spoiled(b, "first byte of the journal", b->journal);
-    ask_spoiled(b, "byte in an entry", b->journal + b->counts->used - 1);
-    ask_spoiled(b, "byte behind the entries", b->journal + b->counts->used);
+    ask_spoiled(b, "byte in an entry", b->journal + b->counts.used - 1);
+    ask_spoiled(b, "byte behind the entries", b->journal + b->counts.used);
     ask_spoiled(b, "last byte of the journal", b->journal + b->journal_length - 1);
     for (unsigned i = 0; i < COUNTS; i++) {
-        ask_spoiled(b, "a count, lowest byte", (uint8_t *)count_of(b->counts, i));
-        ask_spoiled(b, "a count, highest byte", (uint8_t *)count_of(b->counts, i) + 7);
+        ask_spoiled(b, "a count, lowest byte", (uint8_t *)count_of(&b->counts, i));
+        ask_spoiled(b, "a count, highest byte", (uint8_t *)count_of(&b->counts, i) + 7);
     }
 }
 
@@ -328,8 +339,8 @@ static void ask_refusals(void)
     ask_refused("no room for an entry", 1, &b, AMEND, record, RECORD, 231, 0);
     ask_accepted("room for a cancellation", 0, &b, CANCEL, record, IDENTIFIER);
     expect_good_file("refusals", &b);
-    while (b.counts->used != 0)
-        ask_accepted("undo", b.counts->used, &b, UNDO, NULL, 0);
+    while (b.counts.used != 0)
+        ask_accepted("undo", b.counts.used, &b, UNDO, NULL, 0);
     expect_empty("refusals undone", &b);
 }
 
@@ -365,7 +376,7 @@ static void spoil(struct batch *b, enum op op, const uint8_t *bytes)
     else if (op == SPOIL_JOURNAL)
         set_byte(b->journal, b->journal_length, bytes);
     else
-        *count_of(b->counts, bytes[0]) = eight_bytes(bytes + 1);
+        *count_of(&b->counts, bytes[0]) = eight_bytes(bytes + 1);
     b->code = b->place = 0;
 }
 
@@ -373,7 +384,7 @@ static void expect_line(const char *what, unsigned long number, const struct bat
 {
     expect_answer(what, number, b, expected[0], expected[1]);
     for (unsigned i = 0; i < COUNTS; i++)
-        expect(what, number, *count_of(b->counts, i), expected[2 + i]);
+        expect(what, number, count_in(b->counts, i), expected[2 + i]);
     expect(what, number, adler(b->file, b->file_length), expected[LINE - 2]);
     expect(what, number, adler(b->journal, b->journal_length), expected[LINE - 1]);
 }
@@ -419,10 +430,10 @@ static void ask_vectors(const char *items_path, const char *lines_path)
 /* Undoes all that stands; each step takes off the length of one entry. */
 static void undo_all(const char *what, struct batch *b)
 {
-    while (b->counts->used != 0) {
-        uint64_t used = b->counts->used;
+    while (b->counts.used != 0) {
+        uint64_t used = b->counts.used;
         ask_accepted(what, used, b, UNDO, NULL, 0);
-        uint64_t freed = used - b->counts->used;
+        uint64_t freed = used - b->counts.used;
         expect(what, used, freed == ADDITION || freed == CANCELLATION, 1);
         if (b->code != 0)
             return;
@@ -441,10 +452,10 @@ static void ask_full_file(void)
         add_posting(&b, number);
         cash += good_cash(number);
         price += good_price(number);
-        expect("full file, held", number, b.counts->held, number);
-        expect("full file, live", number, b.counts->live, number);
-        expect("full file, cash", number, b.counts->cash, cash);
-        expect("full file, price", number, b.counts->price, price);
+        expect("full file, held", number, b.counts.held, number);
+        expect("full file, live", number, b.counts.live, number);
+        expect("full file, cash", number, b.counts.cash, cash);
+        expect("full file, price", number, b.counts.price, price);
     }
     expect_good_file("full file", &b);
     put_good_posting(record, MOST_RECORDS + 1);
@@ -462,7 +473,7 @@ static void ask_full_journal(void)
     unsigned version = 0;
     add_posting(&b, 1);
     add_posting(&b, 2);
-    while (LONGEST_JOURNAL - b.counts->used >= ADDITION && b.code == 0) {
+    while (LONGEST_JOURNAL - b.counts.used >= ADDITION && b.code == 0) {
         version++;
         posting_version(record, 1 + version % 2, version);
         ask_accepted("full journal, amend", version, &b, AMEND, record, RECORD);

@@ -1,4 +1,4 @@
--- What a call of the batch promised, in C's numbers.
+-- What a call of the batch promised, in C's structs.
 -- Assumes nothing.
 use Prim.Native.Nat.{ℕ}
 use mathlib.Core.List.{List}
@@ -6,25 +6,24 @@ use mathlib.Core.Path.{_≡_, _∙_, ap, subst}
 use Rattle.text.specs.declared.Answer.{Answer}
 use Rattle.batch.specs.declared.Counts.{Counts}
 use Rattle.batch.specs.declared.Outcome.{Outcome}
-use Rattle.batch.specs.Batch.{Batch, Call, batchOf, Called}
-use Rattle.fuganorezi.specs.Calls.{sixOf, Told, BatchCalled}
+use Rattle.batch.specs.Batch.{Batch, Call, batchOf, answerTo, after, Called}
+use Rattle.fuganorezi.specs.declared.BatchOutcome.{BatchOutcome}
+use Rattle.fuganorezi.specs.Calls.{outcomeOf, BatchCalled}
 
-pub told : {b : Batch} {call : Call} {o : Outcome} {r place : ℕ} {six file journal : List ℕ}
-    → Called b call (o .answer) (o .counts) file journal → Told o r place six → BatchCalled b call r place six file journal
-told kept t =
+pub told : {b : Batch} {call : Call} {o : Outcome} {r : BatchOutcome} {file journal : List ℕ}
+    → Called b call (o .answer) (o .counts) file journal → r ≡ outcomeOf (o .answer) (o .counts) → BatchCalled b call r file journal
+told {b} {call} {o} kept e =
     record {
-      code = t .code ∙ ap (λ (a : Answer). a .code) (kept .answers);
-      places = t .places ∙ ap (λ (a : Answer). a .place) (kept .answers);
-      counted = t .counted ∙ ap sixOf (kept .counted);
+      outcome = e ∙ ap (λ (a : Answer). outcomeOf a (o .counts)) (kept .answers) ∙ ap (outcomeOf (answerTo b call)) (kept .counted);
       filed = kept .filed;
       entered = kept .entered;
     }
 
 -- with the counts that C gave
-pub told-from : {before entries : List ℕ} {c given : Counts} {call : Call} {o : Outcome} {r place : ℕ} {six file journal : List ℕ}
+pub told-from : {before entries : List ℕ} {c given : Counts} {call : Call} {o : Outcome} {r : BatchOutcome} {file journal : List ℕ}
     → c ≡ given
     → Called (batchOf before entries c) call (o .answer) (o .counts) file journal
-    → Told o r place six
-    → BatchCalled (batchOf before entries given) call r place six file journal
-told-from {before} {entries} {c} {given} {call} {o} {r} {place} {six} {file} {journal} e kept t =
-    subst (λ (x : Counts). BatchCalled (batchOf before entries x) call r place six file journal) e (told kept t)
+    → r ≡ outcomeOf (o .answer) (o .counts)
+    → BatchCalled (batchOf before entries given) call r file journal
+told-from {before} {entries} {c} {given} {call} {o} {r} {file} {journal} e kept t =
+    subst (λ (x : Counts). BatchCalled (batchOf before entries x) call r file journal) e (told kept t)

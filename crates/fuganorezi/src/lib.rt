@@ -1,7 +1,7 @@
-// The interface for C, declared in include/fuganorezi.h: byte slices in, numbers out.
+// The interface for C, declared in include/fuganorezi.h: byte slices and counts in, numbers out.
 ghost use mathlib.Core.Path.{_≡_};
 ghost use Rattle.batch.specs.Batch.{noCounts, batchOf, Open, Add, Amend, Cancel, Undo};
-ghost use Rattle.fuganorezi.specs.Calls.{IdentifierChecked, FileChecked, sixOf, countsIn, Told, BatchCalled};
+ghost use Rattle.fuganorezi.specs.Calls.{IdentifierChecked, FileChecked, countsIn, outcomeOf, BatchCalled};
 use batch::Counts;
 use batch::Outcome;
 use fields::Hellers;
@@ -24,120 +24,113 @@ pub extern "C" fn fuganorezi_file_check(bytes: &[u8], out: &mut [u64; 7]) -> u32
     answer.code
 }
 
-// ---- the open batch: C has its counts as a struct of six numbers, which lie as an array of six does
+// ---- the open batch: its counts go in and come out by value, amounts in haléře as plain numbers
 
-fn counts_in(six: &[u64; 6]) -> Counts
-    ensures { λ r. ⌜ r ≡ countsIn (now (six .entry)) ⌝ }
+#[repr(C)]
+pub struct BatchCounts {
+    pub live: u64,
+    pub cancelled: u64,
+    pub cash: u64,
+    pub price: u64,
+    pub held: u64,
+    pub used: u64,
+}
+
+// Code and place of the answer, and the next counts.
+#[repr(C)]
+pub struct BatchOutcome {
+    pub code: u32,
+    pub place: u32,
+    pub counts: BatchCounts,
+}
+
+fn counts_in(c: BatchCounts) -> Counts
+    ensures { λ r. ⌜ r ≡ countsIn c ⌝ }
 {
     Counts {
         totals: Totals {
-            live: six[0],
-            cancelled: six[1],
-            cash: Hellers(six[2]),
-            price: Hellers(six[3]),
+            live: c.live,
+            cancelled: c.cancelled,
+            cash: Hellers(c.cash),
+            price: Hellers(c.price),
         },
-        held: six[4] as usize,
-        used: six[5] as usize,
+        held: c.held as usize,
+        used: c.used as usize,
     }
 }
 
-fn six_of(c: Counts) -> [u64; 6]
-    ensures { λ r. ⌜ r ≡ sixOf c ⌝ }
+fn outcome_of(o: Outcome) -> BatchOutcome
+    ensures { λ r. ⌜ r ≡ outcomeOf (o .answer) (o .counts) ⌝ }
 {
+    let answer = o.answer;
+    let c = o.counts;
     let totals = c.totals;
     let cash = totals.cash;
     let price = totals.price;
-    [
-        totals.live,
-        totals.cancelled,
-        cash.0,
-        price.0,
-        c.held as u64,
-        c.used as u64,
-    ]
-}
-
-// Hands out the next counts and the place, and gives the code.
-fn tell(outcome: Outcome, counts: &mut [u64; 6], place: &mut u32) -> u32
-    ensures { λ r. ⌜ Told outcome r (now (place .exit)) (now (counts .exit)) ⌝ }
-{
-    let answer = outcome.answer;
-    *counts = six_of(outcome.counts);
-    *place = answer.place;
-    answer.code
+    BatchOutcome {
+        code: answer.code,
+        place: answer.place,
+        counts: BatchCounts {
+            live: totals.live,
+            cancelled: totals.cancelled,
+            cash: cash.0,
+            price: price.0,
+            held: c.held as u64,
+            used: c.used as u64,
+        },
+    }
 }
 
 #[no_mangle]
-pub extern "C" fn fuganorezi_batch_open(
-    file: &mut [u8],
-    journal: &mut [u8],
-    counts: &mut [u64; 6],
-    place: &mut u32,
-) -> u32
-    ensures { λ r. ⌜ BatchCalled (batchOf (now (file .entry)) (now (journal .entry)) noCounts) Open r (now (place .exit)) (now (counts .exit)) (now (file .exit)) (now (journal .exit)) ⌝ }
+pub extern "C" fn fuganorezi_batch_open(file: &mut [u8], journal: &mut [u8]) -> BatchOutcome
+    ensures { λ r. ⌜ BatchCalled (batchOf (now (file .entry)) (now (journal .entry)) noCounts) Open r (now (file .exit)) (now (journal .exit)) ⌝ }
 {
-    tell(batch::open(file, journal), counts, place)
+    outcome_of(batch::open(file, journal))
 }
 
 #[no_mangle]
 pub extern "C" fn fuganorezi_batch_add(
     file: &mut [u8],
     journal: &mut [u8],
-    counts: &mut [u64; 6],
+    counts: BatchCounts,
     rec: &[u8],
-    place: &mut u32,
-) -> u32
-    ensures { λ r. ⌜ BatchCalled (batchOf (now (file .entry)) (now (journal .entry)) (countsIn (now (counts .entry)))) (Add (now (rec .entry))) r (now (place .exit)) (now (counts .exit)) (now (file .exit)) (now (journal .exit)) ⌝ }
+) -> BatchOutcome
+    ensures { λ r. ⌜ BatchCalled (batchOf (now (file .entry)) (now (journal .entry)) (countsIn counts)) (Add (now (rec .entry))) r (now (file .exit)) (now (journal .exit)) ⌝ }
 {
-    tell(
-        batch::add(file, journal, counts_in(counts), rec),
-        counts,
-        place,
-    )
+    outcome_of(batch::add(file, journal, counts_in(counts), rec))
 }
 
 #[no_mangle]
 pub extern "C" fn fuganorezi_batch_amend(
     file: &mut [u8],
     journal: &mut [u8],
-    counts: &mut [u64; 6],
+    counts: BatchCounts,
     rec: &[u8],
-    place: &mut u32,
-) -> u32
-    ensures { λ r. ⌜ BatchCalled (batchOf (now (file .entry)) (now (journal .entry)) (countsIn (now (counts .entry)))) (Amend (now (rec .entry))) r (now (place .exit)) (now (counts .exit)) (now (file .exit)) (now (journal .exit)) ⌝ }
+) -> BatchOutcome
+    ensures { λ r. ⌜ BatchCalled (batchOf (now (file .entry)) (now (journal .entry)) (countsIn counts)) (Amend (now (rec .entry))) r (now (file .exit)) (now (journal .exit)) ⌝ }
 {
-    tell(
-        batch::amend(file, journal, counts_in(counts), rec),
-        counts,
-        place,
-    )
+    outcome_of(batch::amend(file, journal, counts_in(counts), rec))
 }
 
 #[no_mangle]
 pub extern "C" fn fuganorezi_batch_cancel(
     file: &mut [u8],
     journal: &mut [u8],
-    counts: &mut [u64; 6],
+    counts: BatchCounts,
     identifier: &[u8],
-    place: &mut u32,
-) -> u32
-    ensures { λ r. ⌜ BatchCalled (batchOf (now (file .entry)) (now (journal .entry)) (countsIn (now (counts .entry)))) (Cancel (now (identifier .entry))) r (now (place .exit)) (now (counts .exit)) (now (file .exit)) (now (journal .exit)) ⌝ }
+) -> BatchOutcome
+    ensures { λ r. ⌜ BatchCalled (batchOf (now (file .entry)) (now (journal .entry)) (countsIn counts)) (Cancel (now (identifier .entry))) r (now (file .exit)) (now (journal .exit)) ⌝ }
 {
-    tell(
-        batch::cancel(file, journal, counts_in(counts), identifier),
-        counts,
-        place,
-    )
+    outcome_of(batch::cancel(file, journal, counts_in(counts), identifier))
 }
 
 #[no_mangle]
 pub extern "C" fn fuganorezi_batch_undo(
     file: &mut [u8],
     journal: &mut [u8],
-    counts: &mut [u64; 6],
-    place: &mut u32,
-) -> u32
-    ensures { λ r. ⌜ BatchCalled (batchOf (now (file .entry)) (now (journal .entry)) (countsIn (now (counts .entry)))) Undo r (now (place .exit)) (now (counts .exit)) (now (file .exit)) (now (journal .exit)) ⌝ }
+    counts: BatchCounts,
+) -> BatchOutcome
+    ensures { λ r. ⌜ BatchCalled (batchOf (now (file .entry)) (now (journal .entry)) (countsIn counts)) Undo r (now (file .exit)) (now (journal .exit)) ⌝ }
 {
-    tell(batch::undo(file, journal, counts_in(counts)), counts, place)
+    outcome_of(batch::undo(file, journal, counts_in(counts)))
 }

@@ -1,4 +1,4 @@
--- `fuganorezi::fuganorezi_batch_open` meets its contract: what it answers is what the batch answered, in C's numbers.
+-- `fuganorezi::fuganorezi_batch_open` meets its contract: what it answers is what the batch answered, in C's structs.
 -- Assumes nothing.
 use borrow.Author.Needs.{needs}
 use Rattle.fuganorezi.proofs.Ways.{told}
@@ -8,8 +8,8 @@ use Rattle.fuganorezi.proofs.fuganorezi_batch_open.Tie as tie
 open-requires : tie.Need-open-requires
 open-requires c κs = search needs
 
-tell-requires : tie.Need-tell-requires
-tell-requires c κs = search needs
+outcome-of-requires : tie.Need-outcome-of-requires
+outcome-of-requires c κs = search needs
 
 same-length : tie.Need-same-length
 same-length c = search needs
@@ -22,4 +22,5 @@ returns c = search told
 
 pub fuganorezi-batch-open-spec : {M : Type 1} → statement M
 fuganorezi-batch-open-spec =
-    tie.close (tie.spec open-requires tell-requires same-length same-length-2 returns)
+    tie.close
+    (tie.spec open-requires outcome-of-requires same-length same-length-2 returns)
