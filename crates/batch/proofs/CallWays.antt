@@ -97,7 +97,7 @@ module _ (file journal : List ℕ) (c : Counts) (g : Gate) (eg : Guarded file jo
       answers = sym e;
       counted = rw (e, ne-eqb (a .code) 0 z, ek);
       filed = rw (e, ne-eqb (a .code) 0 z, ek);
-      entered = rw (e, ne-eqb (a .code) 0 z, ek);
+      journaled = rw (e, ne-eqb (a .code) 0 z, ek);
     }
 
     pub guard-refuses : (g .answer .code ≡ 0 → ⊥) → Called this call (g .answer) c file journal
@@ -124,7 +124,7 @@ module _ (file journal : List ℕ) (c : Counts) (g : Gate) (eg : Guarded file jo
           answers = w .answers ∙ sym e;
           counted = ap (λ (x : Batch). x .counts) same;
           filed = ap (λ (x : Batch). x .file) same;
-          entered = ap (λ (x : Batch). x .journal) same;
+          journaled = ap (λ (x : Batch). x .journal) same;
         }
 
 -- ---- open
@@ -135,7 +135,7 @@ open-refused file journal k b ek e n = record {
   answers = rw (← e, not-true b n);
   counted = ek ∙ rw (← e, not-true b n);
   filed = rw (← e, not-true b n);
-  entered = rw (← e, not-true b n);
+  journaled = rw (← e, not-true b n);
 }
 
 pub open-done : (file journal file′ journal′ : List ℕ) (k : Counts) (b : Bool) → k ≡ noCounts → b ≡ rightLengths (length file) (length journal) → not b ≡ false
@@ -145,7 +145,7 @@ open-done file journal file′ journal′ k b ek e n ef ej = record {
   answers = rw (← e, not-false b n);
   counted = ek ∙ rw (← e, not-false b n);
   filed = ef ∙ rw (← e, not-false b n);
-  entered = ej ∙ rw (← e, not-false b n);
+  journaled = ej ∙ rw (← e, not-false b n);
 }
 
 -- ---- undo
@@ -181,5 +181,5 @@ module _ (file journal : List ℕ) (c : Counts) (g : Gate) (eg : Guarded file jo
         answers = sym e;
         counted = rw e (ap (λ (x : Batch). x .counts) (sym same));
         filed = rw e (ap (λ (x : Batch). x .file) (sym same));
-        entered = rw e (ap (λ (x : Batch). x .journal) (sym same));
+        journaled = rw e (ap (λ (x : Batch). x .journal) (sym same));
       }

@@ -14,5 +14,5 @@ called-once b call r s c d file file′ journal journal′ u v = (
   gives-once _ r s (u .answers) (v .answers),
   gives-once _ c d (u .counted) (v .counted),
   gives-once _ file file′ (u .filed) (v .filed),
-  gives-once _ journal journal′ (u .entered) (v .entered),
+  gives-once _ journal journal′ (u .journaled) (v .journaled),
 )

@@ -138,4 +138,4 @@ pub record Called (b : Batch) (call : Call) (r : Answer) (counts : Counts) (file
   pub answers : r ≡ answerTo b call
   pub counted : counts ≡ after b call .counts
   pub filed : file ≡ after b call .file
-  pub entered : journal ≡ after b call .journal
+  pub journaled : journal ≡ after b call .journal

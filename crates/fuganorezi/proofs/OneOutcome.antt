@@ -19,5 +19,5 @@ pub batch-called-once : (b : Batch) (call : Call) (r s : BatchOutcome) (file fil
 batch-called-once b call r s file file′ journal journal′ u v = (
   gives-once _ r s (u .outcome) (v .outcome),
   gives-once _ file file′ (u .filed) (v .filed),
-  gives-once _ journal journal′ (u .entered) (v .entered),
+  gives-once _ journal journal′ (u .journaled) (v .journaled),
 )

@@ -16,7 +16,7 @@ told {b} {call} {o} kept e =
     record {
       outcome = e ∙ ap (λ (a : Answer). outcomeOf a (o .counts)) (kept .answers) ∙ ap (outcomeOf (answerTo b call)) (kept .counted);
       filed = kept .filed;
-      entered = kept .entered;
+      journaled = kept .journaled;
     }
 
 -- with the counts that C gave

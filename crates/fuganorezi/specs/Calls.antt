@@ -46,4 +46,4 @@ outcomeOf a c = record { code = a .code; place = a .place; counts = countsOut c 
 pub record BatchCalled (b : Batch) (call : Call) (r : BatchOutcome) (file journal : List ℕ) : Type 0 where
   pub outcome : r ≡ outcomeOf (answerTo b call) (after b call .counts)
   pub filed : file ≡ after b call .file
-  pub entered : journal ≡ after b call .journal
+  pub journaled : journal ≡ after b call .journal
