@@ -269,7 +269,7 @@ fn answer_with_buffers(fd: i32, size: usize, path: &[u8], n: usize, m: usize) ->
 }
 
 // The buffers may be longer than those of a good batch: the file by a record, the journal by a byte.
-pub fn answer(fd: i32, size: usize, path: &[u8]) -> bool {
+pub(super) fn answer(fd: i32, size: usize, path: &[u8]) -> bool {
     let mut lengths = [0u8; 8];
     let got = io::read_full(fd, &mut lengths);
     if size < 8 || got < 8 {
