@@ -15,8 +15,7 @@ use Rattle.posting.specs.File.{lineOf}
 use Rattle.batch.specs.Actions.{idOf, withLine, placeOf, actionFile}
 use Rattle.batch.specs.Journal.{zeros}
 use Rattle.batch.specs.Batch.{Batch, Amend, rightLengths, sound, answerTo, entered, after}
-use Rattle.batch.specs.History.{Action, Amendment, zeroFilled, linesOf, recordsOf, entriesOf, rules, made, AmendsOnePlace, GoodFileOf}
-use Rattle.batch.proofs.GuardWays.{lengths-bounded}
+use Rattle.batch.specs.History.{Action, Amendment, zeroFilled, linesOf, recordsOf, entriesOf, rules, made, AmendsOnePlace, GoodFileOf, GoodLengths}
 use Rattle.batch.proofs.Sheets.{amends}
 use Rattle.batch.proofs.Views.{lines-long, id-view, Touched, touched}
 use Rattle.batch.proofs.SheetTotals.{file-passes}
@@ -38,10 +37,10 @@ sheet-file n m bound xs st =
       passes = file-passes (recordsOf xs) s (omega arith);
     }
 
-pub sound-file : (b : Batch) → rightLengths (length (b .file)) (length (b .journal)) ≡ true → sound b ≡ true → GoodFileOf b
+pub sound-file : (b : Batch) → GoodLengths (length (b .file)) (length (b .journal)) → sound b ≡ true → GoodFileOf b
 sound-file b good h =
     let f = found b h in
-    subst GoodFileOf (sym (f .is)) (sheet-file (length (b .file)) (length (b .journal)) (lengths-bounded _ _ good .0) (f .acts) (f .stands))
+    subst GoodFileOf (sym (f .is)) (sheet-file (length (b .file)) (length (b .journal)) (good .most) (f .acts) (f .stands))
 
 -- ---- one place
 module _ (s p : List ℕ) (a : ℕ) (h : a ≤ length s) where
