@@ -9,11 +9,6 @@ use Rattle.batch.specs.declared.Walk.{Walk}
 use Rattle.batch.specs.Actions.{actionAnswer}
 use Rattle.batch.specs.Journal.{bodyLength, stepOf, rebuilt}
 
--- so many records stand in the file
-pub record Holds (file : List ℕ) (held : ℕ) : Type 0 where
-  pub few : held ≤ 999
-  pub fits : held * 401 ≤ length file
-
 -- an action that is accepted, with a body of its kind's length
 pub record Acceptable (file : List ℕ) (held kind : ℕ) (body : List ℕ) : Type 0 where
   pub few : held ≤ 999

@@ -121,10 +121,6 @@ finish-not s rest b e g = rw (← e, g)
 unfoldable pub scanned : Scan → List ℕ → ServicesReading
 scanned s bs = cond (s .bad) Malformed (added (s .services) (codesFrom (s .code) bs))
 
-added-one : (s : Services) (c : ℕ) → added s (c ∷ []) ≡ addedOne s c
-unfolding added addedOne
-added-one s c = refl
-
 -- where the digits and "+" end
 scan-end : (s : Scan) (bs : List ℕ) → codesFrom (s .code) bs ≡ cond (isBlank bs) (s .code) 100 ∷ [] → scanned s bs ≡ finished s bs
 unfolding scanned finished added addedOne

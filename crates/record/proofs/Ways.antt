@@ -24,7 +24,6 @@ use Rattle.fields.specs.declared.DateReading.{DateReading}
 use Rattle.fields.specs.declared.TimeReading.{TimeReading}
 use Rattle.fields.specs.declared.TextReading.{TextReading}
 use Rattle.fields.specs.declared.NumberReading.{NumberReading}
-use Rattle.fields.specs.declared.CountryReading.{CountryReading}
 use Rattle.fields.specs.declared.EmptyReading.{EmptyReading}
 use Rattle.fields.specs.declared.Grams.{Grams}
 use Rattle.fields.specs.declared.Hellers.{Hellers}
@@ -39,8 +38,8 @@ use Rattle.fields.specs.declared.StatusReading.{StatusReading}
 use Rattle.fields.specs.declared.MainReading.{MainReading}
 use Rattle.fields.specs.Dates.{readDate, readTime}
 use Rattle.fields.specs.Texts.{readText, readMail}
-use Rattle.fields.specs.Numbers.{readPostcode, readTelephone, readSymbol, readCount}
-use Rattle.fields.specs.Others.{readCountry, readEmpty, readStatus, readMain}
+use Rattle.fields.specs.Numbers.{readTelephone, readSymbol, readCount}
+use Rattle.fields.specs.Others.{readEmpty, readStatus, readMain}
 use Rattle.fields.specs.Amounts.{readWeight, readMoney}
 use Rattle.fields.specs.Services.{hasCode, noServices, readServices}
 use Rattle.record.specs.declared.Address.{Address}
@@ -65,18 +64,6 @@ pub when-is : (rec f2 f3 : List ℕ) (date : DateReading) (time : TimeReading)
     → f3 ≡ fieldOf rec 3 → time ≡ readTime f3
     → record { date = date; time = time } ≡ whenOf rec
 when-is rec f2 f3 date time p2 q2 p3 q3 = rw (q2, p2, q3, p3)
-
-pub address-is : (rec f4 f5 f6 f7 f8 f9 f10 f11 : List ℕ) (name : TextReading) (postcode : NumberReading) (country : CountryReading) (municipality : TextReading) (district : TextReading) (street : TextReading) (house : TextReading) (orientation : TextReading)
-    → f4 ≡ fieldOf rec 4 → name ≡ readText 30 f4
-    → f5 ≡ fieldOf rec 5 → postcode ≡ readPostcode f5
-    → f6 ≡ fieldOf rec 6 → country ≡ readCountry f6
-    → f7 ≡ fieldOf rec 7 → municipality ≡ readText 40 f7
-    → f8 ≡ fieldOf rec 8 → district ≡ readText 40 f8
-    → f9 ≡ fieldOf rec 9 → street ≡ readText 40 f9
-    → f10 ≡ fieldOf rec 10 → house ≡ readText 6 f10
-    → f11 ≡ fieldOf rec 11 → orientation ≡ readText 6 f11
-    → record { name = name; postcode = postcode; country = country; municipality = municipality; district = district; street = street; house = house; orientation = orientation } ≡ addressOf rec
-address-is rec f4 f5 f6 f7 f8 f9 f10 f11 name postcode country municipality district street house orientation p4 q4 p5 q5 p6 q6 p7 q7 p8 q8 p9 q9 p10 q10 p11 q11 = rw (q4, p4, q5, p5, q6, p6, q7, p7, q8, p8, q9, p9, q10, p10, q11, p11)
 
 pub contact-is : (rec f12 f13 f14 : List ℕ) (telephone : NumberReading) (mail : TextReading) (empty : EmptyReading)
     → f12 ≡ fieldOf rec 12 → telephone ≡ readTelephone f12
