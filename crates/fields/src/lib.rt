@@ -2,8 +2,9 @@
 ghost use mathlib.Core.Path.{_≡_};
 ghost use mathlib.Core.Bool.{true, false, cond};
 ghost use Prim.Native.Nat.{_+_, _-_, _/_, _≤_, _<_};
-ghost use lib.ListN.{length, getD};
+ghost use lib.ListN.{length, getD, take, drop};
 ghost use lib.Dec.{eqb, ltb};
+ghost use lib.Bits.{bitAnd};
 ghost use Rattle.text.specs.Promises.{Gives};
 ghost use Rattle.text.specs.Bytes.{every, run};
 ghost use Rattle.text.specs.Lists.{overlay};
@@ -122,10 +123,49 @@ fn is_text(b: u8) -> bool
     (32 <= b) & (b != 127)
 }
 
+fn wide(b: u8) -> u64
+    ensures { λ r. ⌜ (r ≡ b) × (r < 256) ⌝ }
+{
+    b as u64
+}
+
+// The low seven bits of each of eight bytes.
+fn low_bits(w: u64) -> u64
+    ensures { λ r. ⌜ (r ≡ bitAnd w 9187201950435737471) × (r ≤ 9187201950435737471) ⌝ }
+{
+    w & 9_187_201_950_435_737_471
+}
+
+// Eight bytes of text from place i on, at once. With t the low seven bits of a byte, t + 60h has bit 7 where t is 20h or more, and t + 1 where
+// it is 7Fh.
+fn text8(f: &[u8], i: usize) -> bool
+    requires { ⌜ i + 8 ≤ length (now f) ⌝ }
+    ensures { λ r. ⌜ r ≡ every isText (take 8 (drop i (now (f .entry)))) ⌝ }
+{
+    let w = wide(f[i])
+        + wide(f[i + 1]) * 256
+        + wide(f[i + 2]) * 65_536
+        + wide(f[i + 3]) * 16_777_216
+        + wide(f[i + 4]) * 4_294_967_296
+        + wide(f[i + 5]) * 1_099_511_627_776
+        + wide(f[i + 6]) * 281_474_976_710_656
+        + wide(f[i + 7]) * 72_057_594_037_927_936;
+    let t = low_bits(w);
+    (((t + 6_944_656_592_455_360_608) ^ (t + 72_340_172_838_076_673)) | w)
+        & 9_259_542_123_273_814_144
+        == 9_259_542_123_273_814_144
+}
+
 fn all_text(f: &[u8]) -> bool
     ensures { λ r. ⌜ r ≡ every isText (now (f .entry)) ⌝ }
 {
     let mut i = 0;
+    while 8 <= f.len() - i {
+        if !text8(f, i) {
+            return false;
+        }
+        i += 8;
+    }
     while i < f.len() {
         if !is_text(f[i]) {
             return false;

@@ -6,5 +6,4 @@ pub mod Lines
 pub mod FirstBreak
 pub mod RecordList
 pub mod Codes
-pub mod Marks
 pub mod GoodFile

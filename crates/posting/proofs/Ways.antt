@@ -4,7 +4,7 @@ use Prim.Native.Nat.{ℕ, zero, suc, _+_, _-_, _*_, _/_, _%_, _≤_, _<_}
 use mathlib.Core.Path.{_≡_, refl, sym, ap, _∙_}
 use mathlib.Core.Bool.{Bool, true, false, cond, not, _&&_, _||_}
 use mathlib.Core.List.{List, [], _∷_}
-use native.Mathlib.Nat.{add-sub-cancel-left, sub-zero}
+use native.Mathlib.Nat.{add-zero, add-sub-cancel-left, sub-zero}
 use native.Mathlib.Numerals.{add-one}
 use native.Mathlib.Omega.{arith}
 use borrow.Author.Tests.{eq-eqb, ne-eqb, le-leb, lt-leb, not-true, not-false}
@@ -17,6 +17,7 @@ use Rattle.record.specs.Columns.{orElse}
 use Rattle.record.specs.Rules.{recordAnswer}
 use Rattle.posting.specs.declared.FileAnswer.{FileAnswer}
 use Rattle.posting.specs.declared.Totals.{Totals}
+use Rattle.index.specs.Index.{keyAt, seek, Indexed}
 use Rattle.posting.specs.File.{recordAt, idAt, lineEnds, repeats, lineAnswer, noTotals, withRecord, totalsOver, refused, passed, lineOr, breakFrom, recordsIn, fileAnswer}
 
 pub refused-is : (c n p : ℕ) (t : Totals) → t ≡ noTotals → record { code = c; number = n; place = p; totals = t } ≡ refused c n p
@@ -26,26 +27,24 @@ refused-is c n p t e = rw e
 pub from-start : (file : List ℕ) (i k : ℕ) → take (i * 401 + k - i * 401) (drop (i * 401) file) ≡ take k (drop (i * 401) file)
 from-start file i k = rw add-sub-cancel-left
 
--- ---- earlier: one record down
-repeats-down : (file : List ℕ) (i j : ℕ) → 0 < j → repeats file i j ≡ (sameBytes (idAt file (j - 1)) (idAt file i) || repeats file i (j - 1))
-unfolding repeats
-repeats-down file i zero h = absurd (omega arith)
-repeats-down file i (suc j) h = let e : suc j - 1 ≡ j = omega arith in rw e
+-- ---- repeated: an earlier record has the identifier where the index finds one
+same-key : (file : List ℕ) (i n : ℕ) → sameBytes (idAt file n) (idAt file i) ≡ sameBytes (keyAt file 0 n) (keyAt file 0 i)
+same-key file i n = rw (add-zero (n * 401), add-zero (i * 401))
 
-module _ (file : List ℕ) (i j : ℕ) (r b : Bool) (known : repeats file i j ≡ r) (h : 0 < j)
-    (eb : b ≡ sameBytes (take ((j - 1) * 401 + 13 - (j - 1) * 401) (drop ((j - 1) * 401) file)) (take (i * 401 + 13 - i * 401) (drop (i * 401) file))) where
-  down : (b || repeats file i (j - 1)) ≡ r
-  down = rw (eb, from-start file (j - 1) 13, from-start file i 13) (sym (repeats-down file i j h) ∙ known)
+repeats-seek : (file : List ℕ) (i n : ℕ) → repeats file i n ≡ not (eqb (seek file 0 (keyAt file 0 i) n) 0)
+unfolding repeats seek
+repeats-seek file i zero = refl
+repeats-seek file i (suc n) = rw (repeats-seek file i n, same-key file i n) (go (sameBytes (keyAt file 0 n) (keyAt file 0 i)))
+  where
+    go : (t : Bool) → (t || not (eqb (seek file 0 (keyAt file 0 i) n) 0)) ≡ not (eqb (cond t (suc n) (seek file 0 (keyAt file 0 i) n)) 0)
+    go true = rw (ne-eqb (suc n) 0 (λ e. omega arith))
+    go false = refl
 
-  pub repeats-here : b ≡ true → true ≡ r
-  repeats-here t = rw t at down
+pub repeated-is : (file : List ℕ) (i t : ℕ) → t ≡ seek file 0 (keyAt file 0 i) i → not (eqb t 0) ≡ repeats file i i
+repeated-is file i t e = rw e (sym (repeats-seek file i i))
 
-  pub repeats-on : b ≡ false → repeats file i (j - 1) ≡ r
-  repeats-on t = rw t at down
-
-pub repeats-none : (file : List ℕ) (i j : ℕ) (r : Bool) → repeats file i j ≡ r → j ≤ 0 → false ≡ r
-unfolding repeats
-repeats-none file i j r known h = let z : j ≡ 0 = omega arith in rw z at known
+pub next-noted : (file : List ℕ) (i m : ℕ) (after : List ℕ) → Indexed file 0 m (i + 1) after → Indexed file 0 (length after) (i + 1) after
+next-noted file i m after known = rw (known .slots) known
 
 -- ---- line_answer
 module _ (file : List ℕ) (i : ℕ) where

@@ -2,4 +2,4 @@ pub mod File
 pub mod Bounds
 pub mod Report
 pub mod Sums
-pub mod Marks
+pub mod Slots

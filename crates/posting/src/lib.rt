@@ -7,10 +7,9 @@ ghost use lib.ListN.{length, drop};
 ghost use Rattle.text.specs.Promises.{Gives};
 ghost use Rattle.text.specs.Lists.{overlay};
 ghost use Rattle.text.specs.Numbers.{places, decimal};
-ghost use Rattle.fields.specs.Services.{bit};
 ghost use Rattle.posting.specs.File.{repeats, lineAnswer, noTotals, amountIn, withRecord, refused, fileAnswer};
 ghost use Rattle.posting.specs.Bounds.{Small, counted};
-ghost use Rattle.posting.specs.Marks.{markOf, Marked};
+ghost use Rattle.posting.specs.Slots.{Spaced, NextSpaced, Checking};
 ghost use Rattle.posting.specs.Report.{numbersOf, behind, line, Report, inputAnswer};
 use fields::Hellers;
 use fields::MoneyReading;
@@ -63,73 +62,19 @@ fn refused(code: u32, number: u32, place: u32) -> FileAnswer
     }
 }
 
-// Whether one of the records before record i has its identifier.
-fn earlier(file: &[u8], i: usize) -> bool
-    requires { ⌜ (i < 1000) × (i * 401 + 401 ≤ length (now file)) ⌝ }
-    ensures { λ r. ⌜ r ≡ repeats (now (file .entry)) i i ⌝ }
+// Whether one of the records before record i has its identifier. The index of those before gets this one, too.
+fn repeated(file: &[u8], i: usize, table: &mut [u16]) -> bool
+    requires { ⌜ (i < 1000) × (i * 401 + 401 ≤ length (now file)) × Spaced (now file) i (now table) ⌝ }
+    ensures { λ r. ⌜ (r ≡ repeats (now (file .entry)) i i) × NextSpaced (now (file .entry)) i (now (table .entry)) (now (table .exit)) ⌝ }
 {
-    let at = i * 401;
-    let id = &file[at..at + 13];
-    let mut j = i;
-    while 0 < j {
-        j -= 1;
-        let b = j * 401;
-        if ident::same(&file[b..b + 13], id) {
-            return true;
-        }
-    }
-    false
-}
-
-fn wide(b: u8) -> usize
-    ensures { λ r. ⌜ (r ≡ b) × (r < 256) ⌝ }
-{
-    b as usize
-}
-
-// The number of an identifier's mark. Equal identifiers have equal marks.
-fn mark_of(id: &[u8]) -> usize
-    requires { ⌜ length (now id) ≡ 13 ⌝ }
-    ensures { λ r. ⌜ (r ≡ markOf (now (id .entry))) × (r < 2048) ⌝ }
-{
-    let digits = wide(id[8]) * 100 + wide(id[9]) * 10 + wide(id[10]);
-    (digits + wide(id[12]) * 51) % 2048
-}
-
-fn has_bit(word: u64, k: usize) -> bool
-    requires { ⌜ k < 64 ⌝ }
-    ensures { λ r. ⌜ r ≡ bit k word ⌝ }
-{
-    (word >> k) % 2 == 1
-}
-
-fn with_bit(word: u64, k: usize) -> u64
-    requires { ⌜ (k < 64) × (bit k word ≡ false) ⌝ }
-    ensures { λ r. ⌜ r ≡ word + 2 ^ k ⌝ }
-{
-    word + (1 << k)
-}
-
-// The same for a caller that marks identifiers: the records before are looked through only if the mark is set, and else it is set now.
-fn repeated(file: &[u8], i: usize, marks: &mut [u64; 32]) -> bool
-    requires { ⌜ (i < 1000) × (i * 401 + 401 ≤ length (now file)) × Marked (now file) i (now marks) ⌝ }
-    ensures { λ r. ⌜ (r ≡ repeats (now (file .entry)) i i) × Marked (now (file .entry)) (i + 1) (now (marks .exit)) ⌝ }
-{
-    let at = i * 401;
-    let m = mark_of(&file[at..at + 13]);
-    let w = m / 64;
-    let k = m % 64;
-    if has_bit(marks[w], k) {
-        return earlier(file, i);
-    }
-    marks[w] = with_bit(marks[w], k);
-    false
+    let before = index::put(table, file, 0, i);
+    before != 0
 }
 
 // What record i breaks, its line end first.
-fn line_answer(file: &[u8], i: usize, marks: &mut [u64; 32]) -> Answer
-    requires { ⌜ (i < 1000) × (i * 401 + 401 ≤ length (now file)) × Marked (now file) i (now marks) ⌝ }
-    ensures { λ r. ⌜ (r ≡ lineAnswer (now (file .entry)) i) × (r .code ≡ 0 → Marked (now (file .entry)) (i + 1) (now (marks .exit))) ⌝ }
+fn line_answer(file: &[u8], i: usize, table: &mut [u16]) -> Answer
+    requires { ⌜ (i < 1000) × (i * 401 + 401 ≤ length (now file)) × Spaced (now file) i (now table) ⌝ }
+    ensures { λ r. ⌜ (r ≡ lineAnswer (now (file .entry)) i) × (r .code ≡ 0 → NextSpaced (now (file .entry)) i (now (table .entry)) (now (table .exit))) ⌝ }
 {
     let at = i * 401;
     let e = at + 399;
@@ -144,7 +89,7 @@ fn line_answer(file: &[u8], i: usize, marks: &mut [u64; 32]) -> Answer
     if answer.code != 0 {
         return answer;
     }
-    if repeated(file, i, marks) {
+    if repeated(file, i, table) {
         return Answer { code: 2, place: 1 };
     }
     Answer { code: 0, place: 0 }
@@ -213,21 +158,16 @@ pub fn count_record(t: Totals, rec: &[u8]) -> Totals
     if small { with_record(t, rec) } else { t }
 }
 
-pub fn check(file: &[u8]) -> FileAnswer
-    ensures { λ r. ⌜ Gives (fileAnswer (now (file .entry))) r ⌝ }
+// The answer to whole records, with a table of more slots that are all free.
+fn checked(file: &[u8], table: &mut [u16]) -> FileAnswer
+    requires { ⌜ Checking (now file) (now table) ⌝ }
+    ensures { λ r. ⌜ r ≡ fileAnswer (now (file .entry)) ⌝ }
 {
-    if file.len() % 401 != 0 {
-        return refused(211, 0, 0);
-    }
     let n = file.len() / 401;
-    if n > 999 {
-        return refused(213, 0, 0);
-    }
-    let mut marks = [0u64; 32];
     let mut totals = no_totals();
     let mut i = 0;
     while i < n {
-        let a = line_answer(file, i, &mut marks);
+        let a = line_answer(file, i, table);
         if a.code != 0 {
             return refused(a.code, i as u32 + 1, a.place);
         }
@@ -241,6 +181,28 @@ pub fn check(file: &[u8]) -> FileAnswer
         place: 0,
         totals,
     }
+}
+
+pub fn check(file: &[u8]) -> FileAnswer
+    ensures { λ r. ⌜ Gives (fileAnswer (now (file .entry))) r ⌝ }
+{
+    if file.len() % 401 != 0 {
+        return refused(211, 0, 0);
+    }
+    let n = file.len() / 401;
+    if n > 999 {
+        return refused(213, 0, 0);
+    }
+    if n < 64 {
+        let mut few = [0u16; 128];
+        return checked(file, &mut few[..128]);
+    }
+    if n < 256 {
+        let mut some = [0u16; 512];
+        return checked(file, &mut some[..512]);
+    }
+    let mut table = [0u16; 2048];
+    checked(file, &mut table[..2048])
 }
 
 // ---- the line of seven numbers

@@ -1,6 +1,7 @@
 pub mod Booleans
 pub mod Ranges
 pub mod Lists
+pub mod Words
 pub mod Loops
 pub mod Numbers
 pub mod Decimals

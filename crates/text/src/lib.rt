@@ -1,6 +1,7 @@
 // What all parts share: the answer, byte classes, digits and the numbers that they write.
-ghost use Prim.Native.Nat.{_-_, _≤_, _<_};
-ghost use lib.ListN.{length, replicate};
+ghost use mathlib.Core.Path.{_≡_};
+ghost use Prim.Native.Nat.{_+_, _-_, _≤_, _<_};
+ghost use lib.ListN.{length, take, drop, replicate};
 ghost use Rattle.text.specs.Promises.{Gives, GivesWithin};
 ghost use Rattle.text.specs.Bytes.{isDigit, isCapital, allDigits, isBlank, run};
 ghost use Rattle.text.specs.Lists.{sameBytes};
@@ -37,10 +38,53 @@ pub fn all_digits(s: &[u8]) -> bool
     true
 }
 
+fn wide(b: u8) -> u64
+    ensures { λ r. ⌜ (r ≡ b) × (r < 256) ⌝ }
+{
+    b as u64
+}
+
+// Eight spaces from place i on. The compiler makes one comparison of the sum.
+fn blank8(s: &[u8], i: usize) -> bool
+    requires { ⌜ i + 8 ≤ length (now s) ⌝ }
+    ensures { λ r. ⌜ r ≡ isBlank (take 8 (drop i (now (s .entry)))) ⌝ }
+{
+    wide(s[i])
+        + wide(s[i + 1]) * 256
+        + wide(s[i + 2]) * 65_536
+        + wide(s[i + 3]) * 16_777_216
+        + wide(s[i + 4]) * 4_294_967_296
+        + wide(s[i + 5]) * 1_099_511_627_776
+        + wide(s[i + 6]) * 281_474_976_710_656
+        + wide(s[i + 7]) * 72_057_594_037_927_936
+        == 2_314_885_530_818_453_536
+}
+
+// Four likewise.
+fn blank4(s: &[u8], i: usize) -> bool
+    requires { ⌜ i + 4 ≤ length (now s) ⌝ }
+    ensures { λ r. ⌜ r ≡ isBlank (take 4 (drop i (now (s .entry)))) ⌝ }
+{
+    wide(s[i]) + wide(s[i + 1]) * 256 + wide(s[i + 2]) * 65_536 + wide(s[i + 3]) * 16_777_216
+        == 538_976_288
+}
+
 pub fn blank(s: &[u8]) -> bool
     ensures { λ r. ⌜ Gives (isBlank (now (s .entry))) r ⌝ }
 {
     let mut i = 0;
+    while 8 <= s.len() - i {
+        if !blank8(s, i) {
+            return false;
+        }
+        i += 8;
+    }
+    while 4 <= s.len() - i {
+        if !blank4(s, i) {
+            return false;
+        }
+        i += 4;
+    }
     while i < s.len() {
         if s[i] != b' ' {
             return false;

@@ -2,117 +2,64 @@
 -- Assumes nothing.
 use borrow.Author.Needs.{needs}
 use native.Mathlib.Omega.{arith}
-use mathlib.Core.Path.{_≡_, refl}
-use Prim.Native.Nat.{_-_, _/_, _≤_}
-use lib.ListN.{length}
-use Rattle.posting.specs.File.{totalsOver}
-use Rattle.posting.specs.Marks.{Marked}
-use Rattle.posting.proofs.Amounts.{totals-small}
-use Rattle.posting.proofs.Marks.{none-marked}
-use Rattle.posting.proofs.Ways.{Unbroken, unbroken-start, file-odd, file-long, file-breaks, file-on, file-passes, totals-start, totals-on}
+use Rattle.index.proofs.Slots.{indexed-none}
+use Rattle.posting.proofs.Ways.{file-odd, file-long}
 use Rattle.posting.proofs.check.Statement.{statement}
 use Rattle.posting.proofs.check.Tie as tie
 
-abbrev Inv-loop : tie.InvT-loop
-Inv-loop file n marks₀ totals₀ i₀ marks totals i = (i ≤ length file / 401) × (totals ≡ totalsOver file i) × (Unbroken file i) × (Marked file i marks)
-
-abbrev μ-loop : tie.MeasureT-loop
-μ-loop file n marks₀ totals₀ i₀ marks totals i = length file / 401 - i
-
-refused-requires : tie.Need-refused-requires Inv-loop μ-loop
+refused-requires : tie.Need-refused-requires
 refused-requires c κs = search needs
 
-returns : tie.Need-returns Inv-loop μ-loop
+returns : tie.Need-returns
 returns c = search file-odd
 
-refused-requires-2 : tie.Need-refused-requires-2 Inv-loop μ-loop
+refused-requires-2 : tie.Need-refused-requires-2
 refused-requires-2 c κs = search needs
 
-returns-2 : tie.Need-returns-2 Inv-loop μ-loop
+returns-2 : tie.Need-returns-2
 returns-2 c = search file-long
 
-no-totals-requires : tie.Need-no-totals-requires Inv-loop μ-loop
-no-totals-requires c κs = search needs
+slice-aggregate-checked : tie.Need-slice-aggregate-checked
+slice-aggregate-checked c = search needs
 
-loop-holds : tie.Need-loop-holds Inv-loop μ-loop
-loop-holds c = (omega arith, search totals-start, search unbroken-start, none-marked _ _ refl)
+checked-requires : tie.Need-checked-requires
+checked-requires c κs = record { whole = search needs; few = omega arith; room = omega arith; none = indexed-none _ 0 128 }
 
-line-answer-requires : tie.Need-line-answer-requires Inv-loop μ-loop
-line-answer-requires c κs = search needs
+returns-3 : tie.Need-returns-3
+returns-3 c = search needs
 
-cast-refused : tie.Need-cast-refused Inv-loop μ-loop
-cast-refused c = search needs
+slice-aggregate-checked-2 : tie.Need-slice-aggregate-checked-2
+slice-aggregate-checked-2 c = search needs
 
-add-refused : tie.Need-add-refused Inv-loop μ-loop
-add-refused c = search needs
+checked-requires-2 : tie.Need-checked-requires-2
+checked-requires-2 c κs = record { whole = search needs; few = omega arith; room = omega arith; none = indexed-none _ 0 512 }
 
-refused-requires-3 : tie.Need-refused-requires-3 Inv-loop μ-loop
-refused-requires-3 c κs = search needs
+returns-4 : tie.Need-returns-4
+returns-4 c = search needs
 
-returns-3 : tie.Need-returns-3 Inv-loop μ-loop
-returns-3 c = search file-breaks
+slice-aggregate-checked-3 : tie.Need-slice-aggregate-checked-3
+slice-aggregate-checked-3 c = search needs
 
-mul-at : tie.Need-mul-at Inv-loop μ-loop
-mul-at c = search needs
+checked-requires-3 : tie.Need-checked-requires-3
+checked-requires-3 c κs = record { whole = search needs; few = omega arith; room = omega arith; none = indexed-none _ 0 2048 }
 
-add-with-record : tie.Need-add-with-record Inv-loop μ-loop
-add-with-record c = search needs
-
-sub-with-record : tie.Need-sub-with-record Inv-loop μ-loop
-sub-with-record c = search needs
-
-part-with-record-start : tie.Need-part-with-record-start Inv-loop μ-loop
-part-with-record-start c = search needs
-
-part-with-record-end : tie.Need-part-with-record-end Inv-loop μ-loop
-part-with-record-end c = search needs
-
-with-record-requires : tie.Need-with-record-requires Inv-loop μ-loop
-with-record-requires c κs = search totals-small
-
-add-i : tie.Need-add-i Inv-loop μ-loop
-add-i c = search needs
-
-loop-less : tie.Need-loop-less Inv-loop μ-loop
-loop-less c = search needs
-
-loop-again : tie.Need-loop-again Inv-loop μ-loop
-loop-again c =
-    let answered = c .before .before .before .before .line-answer in
-    let zero = c .before .before .if3 .left in (
-      omega arith,
-      search totals-on,
-      file-on _ (c .before .before .before .before .before .before .before .before .before .before .if1 .left) (c .before .before .before .before .before .before .before .before .before .if2 .left) _ (c .before .before .before .before .before .before .loop-test .taken) (c .before .before .before .before .before .before .before .loop .inv .2) (answered .result) (answered .ensures .0) zero,
-      answered .ensures .1 zero,
-    )
-
-returns-4 : tie.Need-returns-4 Inv-loop μ-loop
-returns-4 c = search file-passes
+returns-5 : tie.Need-returns-5
+returns-5 c = search needs
 
 pub check-spec : {M : Type 1} → statement M
 check-spec =
     tie.close
     (tie.spec
-    Inv-loop
-    μ-loop
     refused-requires
     returns
     refused-requires-2
     returns-2
-    no-totals-requires
-    loop-holds
-    line-answer-requires
-    cast-refused
-    add-refused
-    refused-requires-3
+    slice-aggregate-checked
+    checked-requires
     returns-3
-    mul-at
-    add-with-record
-    sub-with-record
-    part-with-record-start
-    part-with-record-end
-    with-record-requires
-    add-i
-    loop-less
-    loop-again
-    returns-4)
+    slice-aggregate-checked-2
+    checked-requires-2
+    returns-4
+    slice-aggregate-checked-3
+    checked-requires-3
+    returns-5)

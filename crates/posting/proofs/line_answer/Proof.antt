@@ -3,7 +3,6 @@
 use borrow.Author.Needs.{needs}
 use native.Mathlib.Omega.{arith}
 use Rattle.posting.proofs.Ways.{line-open, line-breaks, line-repeats, line-passes}
-use borrow.Author.Needs.{needs}
 use Rattle.posting.proofs.line_answer.Statement.{statement}
 use Rattle.posting.proofs.line_answer.Tie as tie
 
@@ -43,11 +42,17 @@ returns-2 c = (search line-breaks, λ z. absurd (c .if2 .taken z))
 repeated-requires : tie.Need-repeated-requires
 repeated-requires c κs = search needs
 
+same-length : tie.Need-same-length
+same-length c = search needs
+
 returns-3 : tie.Need-returns-3
-returns-3 c = (search line-repeats, λ z. c .before .repeated .ensures .1)
+returns-3 c = (search line-repeats, λ z. c .before .before .before .repeated .ensures .1)
+
+same-length-2 : tie.Need-same-length-2
+same-length-2 c = search needs
 
 returns-4 : tie.Need-returns-4
-returns-4 c = (search line-passes, λ z. c .before .repeated .ensures .1)
+returns-4 c = (search line-passes, λ z. c .before .before .before .repeated .ensures .1)
 
 pub line-answer-spec : {M : Type 1} → statement M
 line-answer-spec =
@@ -65,5 +70,7 @@ line-answer-spec =
     check-requires
     returns-2
     repeated-requires
+    same-length
     returns-3
+    same-length-2
     returns-4)
