@@ -12,13 +12,13 @@ use borrow.Rule.Slice.PartMut.{putMid}
 use lib.ListN.{length, getD, take, drop, set, length-append, length-drop}
 use lib.Seq.{take-suc, take-all, drop-cons, set-at, append-snoc, length-take-le}
 use Rattle.text.specs.declared.Answer.{Answer}
-use Rattle.text.specs.Answers.{answer, accepted}
+use Rattle.text.specs.Answers.{answer, accepted, orElse}
 use Rattle.text.specs.Lists.{sameBytes}
 use Rattle.text.proofs.Lists.{spelled, put-is}
 use Rattle.ident.specs.Identifier.{rightId}
 use Rattle.ident.specs.Calls.{Checked}
 use Rattle.layout.specs.Layout.{fieldOf}
-use Rattle.record.specs.Columns.{orElse}
+use Rattle.text.proofs.AnswerLaws.{or-first, or-second}
 use Rattle.record.specs.Rules.{recordAnswer}
 use Rattle.posting.specs.File.{lineOf, idAt}
 use Rattle.batch.specs.Actions.{seek, liveAnswer, addAnswer, amendAnswer, cancelAnswer, withLine, actionAnswer}
@@ -56,40 +56,33 @@ module _ (file id : List ℕ) (held n : ℕ) (en : (n ≡ seek file id held) × 
   is-live m e = rw (← en .0, ne-eqb n 0 m, ne-eqb (getD file ((n - 1) * 401 + 340) 0) 48 e)
 
 -- ---- add_answer, amend_answer, cancel_answer, action_answer
-or-refuses : (a b : Answer) → (a .code ≡ 0 → ⊥) → a ≡ orElse a b
-unfolding orElse
-or-refuses a b n = rw (ne-eqb (a .code) 0 n)
-
-or-passes : (a b : Answer) → a .code ≡ 0 → b ≡ orElse a b
-unfolding orElse
-or-passes a b e = rw (eq-eqb (a .code) 0 e)
 
 module _ (file rec : List ℕ) (held : ℕ) (a : Answer) (ea : a ≡ recordAnswer true rec) where
   pub add-broken : (a .code ≡ 0 → ⊥) → a ≡ addAnswer file held rec
   unfolding addAnswer
-  add-broken n = rw (← ea) (or-refuses a _ n)
+  add-broken n = rw (← ea) (or-first a _ n)
 
   pub amend-broken : (a .code ≡ 0 → ⊥) → a ≡ amendAnswer file held rec
   unfolding amendAnswer
-  amend-broken n = rw (← ea) (or-refuses a _ n)
+  amend-broken n = rw (← ea) (or-first a _ n)
 
   module _ (z : a .code ≡ 0) (id : List ℕ) (ei : id ≡ fieldOf rec 1) where
     pub amend-live : (r : Answer) → r ≡ liveAnswer file held id → r ≡ amendAnswer file held rec
     unfolding amendAnswer
-    amend-live r e = rw (← ea, ← ei) (e ∙ or-passes a (liveAnswer file held id) z)
+    amend-live r e = rw (← ea, ← ei) (e ∙ or-second a (liveAnswer file held id) z)
 
     module _ (n : ℕ) (en : (n ≡ seek file id held) × (n ≤ held)) where
       pub add-repeats : (n ≡ 0 → ⊥) → answer 2 1 ≡ addAnswer file held rec
       unfolding addAnswer
-      add-repeats m = rw (← ea, ← ei, ← en .0, ne-eqb n 0 m) (or-passes a (answer 2 1) z)
+      add-repeats m = rw (← ea, ← ei, ← en .0, ne-eqb n 0 m) (or-second a (answer 2 1) z)
 
       pub add-room : n ≡ 0 → held * 401 + 401 ≤ length file → accepted ≡ addAnswer file held rec
       unfolding addAnswer
-      add-room m h = rw (← ea, ← ei, ← en .0, eq-eqb n 0 m, le-leb (held * 401 + 401) (length file) h) (or-passes a accepted z)
+      add-room m h = rw (← ea, ← ei, ← en .0, eq-eqb n 0 m, le-leb (held * 401 + 401) (length file) h) (or-second a accepted z)
 
       pub add-full : n ≡ 0 → length file < held * 401 + 401 → answer 230 0 ≡ addAnswer file held rec
       unfolding addAnswer
-      add-full m h = rw (← ea, ← ei, ← en .0, eq-eqb n 0 m, lt-leb (held * 401 + 401) (length file) h) (or-passes a (answer 230 0) z)
+      add-full m h = rw (← ea, ← ei, ← en .0, eq-eqb n 0 m, lt-leb (held * 401 + 401) (length file) h) (or-second a (answer 230 0) z)
 
 module _ (file id : List ℕ) (held : ℕ) (a : Answer) (ea : Checked id a) where
   pub cancel-broken : (a .code ≡ 0 → ⊥) → a ≡ cancelAnswer file held id

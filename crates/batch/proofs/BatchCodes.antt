@@ -8,48 +8,72 @@ use mathlib.Core.List.{List, [], _∷_}
 use native.Mathlib.Omega.{arith}
 use lib.Dec.{eqb, leb}
 use lib.ListN.{length}
+use Rattle.text.proofs.Booleans.{by-cond}
 use Rattle.text.specs.declared.Answer.{Answer}
-use Rattle.text.specs.Answers.{answer, accepted}
+use Rattle.text.specs.Answers.{answer, accepted, orElse}
 use Rattle.ident.specs.Identifier.{rightId}
-use Rattle.record.specs.Columns.{orElse}
 use Rattle.record.specs.Rules.{recordAnswer}
-use Rattle.posting.proofs.Codes.{lacks, lacks-on, no-other-code}
-use Rattle.batch.specs.Actions.{present, placeOf, isCancelled, idOf, liveAnswer, addAnswer, amendAnswer, cancelAnswer, actionAnswer}
+use Rattle.record.specs.Codes.{recordCodes, lacks}
+use Rattle.record.proofs.Codes.{lacks-other}
+use Rattle.record.proofs.Order.{no-other-code}
+use Rattle.batch.specs.Actions.{present, placeOf, isCancelledAt, idOf, liveAnswer, addAnswer, amendAnswer, cancelAnswer, actionAnswer}
 use Rattle.batch.specs.Journal.{bodyLength, entryLength}
 use Rattle.batch.specs.Batch.{Batch, Call, Open, Add, Amend, Cancel, Undo, rightLengths, sound, ready, entryAnswer, workAnswer, answerTo}
 use Rattle.batch.specs.History.{GoodLengths, MadeBySome}
-use Rattle.batch.proofs.Parsing.{by-cond}
 use Rattle.batch.proofs.Exactly.{sound-exactly}
 use Rattle.batch.proofs.History.{lengths-exactly}
 
+-- what the calls can refuse besides what the record check gives
+abbrev ownCodes : List ℕ
+ownCodes = 2 ∷ 230 ∷ 231 ∷ 232 ∷ 233 ∷ 234 ∷ []
+
 -- a code that the work of no call gives
-module _ (c : ℕ) (table : lacks c (0 ∷ 236 ∷ 1 ∷ 210 ∷ 27 ∷ 34 ∷ 36 ∷ 11 ∷ 221 ∷ 222 ∷ 220 ∷ 223 ∷ 72 ∷ []) ≡ true) (ours : lacks c (2 ∷ 230 ∷ 231 ∷ 232 ∷ 233 ∷ 234 ∷ []) ≡ true) where
+module _ (c : ℕ) (table : lacks c recordCodes ≡ true) (ours : lacks c ownCodes ≡ true) where
   abbrev Never : Answer → Type 0
   Never r = r .code ≡ c → ⊥
 
-  n0 : 0 ≡ c → ⊥
-  n0 = lacks-on c 0 _ table .0
+  of-record : (x : ℕ) → lacks x recordCodes ≡ false → x ≡ c → ⊥
+  of-record x there = lacks-other c x recordCodes there table
 
-  n236 : 236 ≡ c → ⊥
-  n236 = lacks-on c 236 _ (lacks-on c 0 _ table .1) .0
+  of-ours : (x : ℕ) → lacks x ownCodes ≡ false → x ≡ c → ⊥
+  of-ours x there = lacks-other c x ownCodes there ours
+
+  -- 0, 1 and 236 are codes of the record check, too
+  n0 : 0 ≡ c → ⊥
+  unfolding lacks
+  n0 = of-record 0 refl
 
   n1 : 1 ≡ c → ⊥
-  n1 = lacks-on c 1 _ (lacks-on c 236 _ (lacks-on c 0 _ table .1) .1) .0
+  unfolding lacks
+  n1 = of-record 1 refl
 
-  n2 : (2 ≡ c → ⊥) × (lacks c (230 ∷ 231 ∷ 232 ∷ 233 ∷ 234 ∷ []) ≡ true)
-  n2 = lacks-on c 2 _ ours
+  n236 : 236 ≡ c → ⊥
+  unfolding lacks
+  n236 = of-record 236 refl
 
-  n230 : (230 ≡ c → ⊥) × (lacks c (231 ∷ 232 ∷ 233 ∷ 234 ∷ []) ≡ true)
-  n230 = lacks-on c 230 _ (n2 .1)
+  n2 : 2 ≡ c → ⊥
+  unfolding lacks
+  n2 = of-ours 2 refl
 
-  n231 : (231 ≡ c → ⊥) × (lacks c (232 ∷ 233 ∷ 234 ∷ []) ≡ true)
-  n231 = lacks-on c 231 _ (n230 .1)
+  n230 : 230 ≡ c → ⊥
+  unfolding lacks
+  n230 = of-ours 230 refl
 
-  n232 : (232 ≡ c → ⊥) × (lacks c (233 ∷ 234 ∷ []) ≡ true)
-  n232 = lacks-on c 232 _ (n231 .1)
+  n231 : 231 ≡ c → ⊥
+  unfolding lacks
+  n231 = of-ours 231 refl
 
-  n233 : (233 ≡ c → ⊥) × (lacks c (234 ∷ []) ≡ true)
-  n233 = lacks-on c 233 _ (n232 .1)
+  n232 : 232 ≡ c → ⊥
+  unfolding lacks
+  n232 = of-ours 232 refl
+
+  n233 : 233 ≡ c → ⊥
+  unfolding lacks
+  n233 = of-ours 233 refl
+
+  n234 : 234 ≡ c → ⊥
+  unfolding lacks
+  n234 = of-ours 234 refl
 
   never-or : (a b : Answer) → Never a → Never b → Never (orElse a b)
   unfolding orElse
@@ -57,14 +81,14 @@ module _ (c : ℕ) (table : lacks c (0 ∷ 236 ∷ 1 ∷ 210 ∷ 27 ∷ 34 ∷ 3
 
   never-live : (file id : List ℕ) (held : ℕ) → Never (liveAnswer file held id)
   never-live file id held =
-      by-cond Never (present file id held) _ _ (λ e. by-cond Never (isCancelled file (placeOf file id held)) (answer 233 0) accepted (λ q. n233 .0) (λ q. n0)) (λ e. n232 .0)
+      by-cond Never (present file id held) _ _ (λ e. by-cond Never (isCancelledAt file (placeOf file id held)) (answer 233 0) accepted (λ q. n233) (λ q. n0)) (λ e. n232)
 
   never-action : (file body : List ℕ) (held kind : ℕ) → Never (actionAnswer file held kind body)
   unfolding actionAnswer addAnswer amendAnswer cancelAnswer
   never-action file body held kind =
       by-cond Never (eqb kind 1) _ _
       (λ e. never-or (recordAnswer true body) _ (no-other-code true body c table)
-      (by-cond Never (present file (idOf body) held) _ _ (λ q. n2 .0) (λ q. by-cond Never (leb (held * 401 + 401) (length file)) accepted (answer 230 0) (λ z. n0) (λ z. n230 .0))))
+      (by-cond Never (present file (idOf body) held) _ _ (λ q. n2) (λ q. by-cond Never (leb (held * 401 + 401) (length file)) accepted (answer 230 0) (λ z. n0) (λ z. n230))))
       (λ e. by-cond Never (eqb kind 3) _ _
       (λ q. never-or (recordAnswer true body) (liveAnswer file held (idOf body)) (no-other-code true body c table) (never-live file (idOf body) held))
       (λ q. by-cond Never (rightId body) (liveAnswer file held body) (answer 1 1) (λ z. never-live file body held) (λ z. n1)))
@@ -74,7 +98,7 @@ module _ (c : ℕ) (table : lacks c (0 ∷ 236 ∷ 1 ∷ 210 ∷ 27 ∷ 34 ∷ 3
   never-entry b kind body =
       by-cond Never (eqb (length body) (bodyLength kind)) _ (answer 236 0)
       (λ e. never-or (actionAnswer (b .file) (b .counts .held) kind body) _ (never-action (b .file) body (b .counts .held) kind)
-      (by-cond Never (leb (b .counts .used + entryLength kind) (length (b .journal))) accepted (answer 231 0) (λ q. n0) (λ q. n231 .0)))
+      (by-cond Never (leb (b .counts .used + entryLength kind) (length (b .journal))) accepted (answer 231 0) (λ q. n0) (λ q. n231)))
       (λ e. n236)
 
   pub never-work : (b : Batch) (call : Call) → workAnswer b call .code ≡ c → ⊥
@@ -82,7 +106,7 @@ module _ (c : ℕ) (table : lacks c (0 ∷ 236 ∷ 1 ∷ 210 ∷ 27 ∷ 34 ∷ 3
   never-work b (Add rec) = never-entry b 1 rec
   never-work b (Amend rec) = never-entry b 3 rec
   never-work b (Cancel id) = never-entry b 2 id
-  never-work b Undo = by-cond Never (eqb (b .counts .used) 0) (answer 234 0) accepted (λ e. lacks-on c 234 _ (n233 .1) .0) (λ e. n0)
+  never-work b Undo = by-cond Never (eqb (b .counts .used) 0) (answer 234 0) accepted (λ e. n234) (λ e. n0)
 
 no-237 : (b : Batch) (call : Call) → workAnswer b call .code ≡ 237 → ⊥
 unfolding lacks

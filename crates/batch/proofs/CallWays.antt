@@ -9,12 +9,12 @@ use borrow.Author.Tests.{eq-eqb, ne-eqb, le-leb, lt-leb, not-true, not-false}
 use borrow.Rule.Slice.PartMut.{putMid, mid-len}
 use lib.ListN.{length, take, drop, length-replicate}
 use Rattle.text.specs.declared.Answer.{Answer}
-use Rattle.text.specs.Answers.{answer, accepted}
+use Rattle.text.specs.Answers.{answer, accepted, orElse}
 use Rattle.text.specs.Lists.{overlay}
 use Rattle.text.proofs.Lists.{put-is}
-use Rattle.record.specs.Columns.{orElse}
 use Rattle.posting.specs.declared.Totals.{Totals}
 use Rattle.posting.specs.File.{totalsOver}
+use Rattle.posting.proofs.Amounts.{small-so-far}
 use Rattle.batch.specs.declared.Counts.{Counts}
 use Rattle.batch.specs.declared.Gate.{Gate}
 use Rattle.batch.specs.declared.Outcome.{Outcome}
@@ -24,7 +24,6 @@ use Rattle.batch.specs.Journal.{bodyLength, entry, zeros, rebuilt}
 use Rattle.batch.specs.Duties.{Acceptable, Replayed}
 use Rattle.batch.specs.Batch.{Batch, batchOf, Call, Open, Undo, rightLengths, sound, ready, entryAnswer, workAnswer, answerTo, entered, undone, latest, after, done, unchanged, noCounts, Called}
 use Rattle.batch.specs.Guards.{Guarded, Countable, countsAfter, Passed, Worked}
-use Rattle.batch.proofs.ReplayWays.{small-so-far}
 use Rattle.batch.proofs.GuardWays.{lengths-bounded}
 
 -- ---- enter

@@ -11,24 +11,25 @@ use borrow.Author.Tests.{eq-eqb, eqb-true, eqb-false, leb-true, le-leb}
 use lib.Dec.{eqb, leb}
 use lib.ListN.{length, take, drop, length-append, length-drop, take-append-drop}
 use lib.Seq.{take-append-seam, drop-append-seam, length-take-le}
+use Rattle.text.proofs.Booleans.{by-cond}
 use Rattle.text.specs.declared.Answer.{Answer}
-use Rattle.text.specs.Answers.{accepted}
+use Rattle.text.specs.Answers.{accepted, orElse}
 use Rattle.text.specs.Bytes.{every}
 use Rattle.text.proofs.Lists.{same-exactly, same-refl}
-use Rattle.record.specs.Columns.{orElse}
 use Rattle.posting.specs.declared.Totals.{Totals}
 use Rattle.posting.specs.File.{totalsOver}
 use Rattle.posting.specs.Sums.{totalsOf}
+use Rattle.posting.specs.Records.{linesOf}
 use Rattle.batch.specs.Journal.{bodyLength, entryLength, kindAt, bodyAt, Run, runOf, replayFrom, zeros, rebuilt}
 use Rattle.batch.specs.Batch.{Batch, batchOf, countsOf, isZero, sameTotals, sound}
-use Rattle.batch.specs.History.{Action, Addition, Amendment, Cancellation, callOf, kindOf, bodyOf, recordsAfter, recordsOf, actionRule, entryRule, ruleFor, rules, zeroFilled, linesOf, entryOf, entriesOf, made, InTurnBehind, InTurn, MadeBySome}
+use Rattle.batch.specs.History.{Action, Addition, Amendment, Cancellation, callOf, kindOf, bodyOf, recordsAfter, recordsOf, actionRule, entryRule, ruleFor, rules, zeroFilled, entryOf, entriesOf, made, InTurnBehind, InTurn, MadeBySome}
 use Rattle.batch.proofs.GuardWays.{totals-same}
-use Rattle.batch.proofs.PrintedLines.{filled-long}
+use Rattle.batch.proofs.ZeroFilled.{filled-long}
 use Rattle.batch.proofs.Sheets.{Sheet, sheet-none}
 use Rattle.batch.proofs.Views.{lines-long}
 use Rattle.batch.proofs.SheetTotals.{totals-view}
 use Rattle.batch.proofs.Printing.{Accepts, Ok, entry-long, length-entries, entry-some, lastFrom, records-last, entries-last, sheet-of, fits-of, rebuilt-is, kind-here, body-here}
-use Rattle.batch.proofs.Parsing.{by-cond, ReadFrom, replay-read}
+use Rattle.batch.proofs.Parsing.{ReadFrom, replay-read}
 
 -- ---- what the test asks, fact by fact
 pub record Sounds (b : Batch) : Type 0 where

@@ -138,8 +138,8 @@ entry-written part made body kind low high e em el eh =
     go true = refl
     go false = refl
 
-pub entry-long : (kind : ℕ) (body : List ℕ) → length (entry kind body) ≡ length body + 4
-entry-long kind body = go (eqb kind 2)
+pub length-entry : (kind : ℕ) (body : List ℕ) → length (entry kind body) ≡ length body + 4
+length-entry kind body = go (eqb kind 2)
   where
     go : (t : Bool) → length (cond t (17 ∷ 0 ∷ kind ∷ 0 ∷ []) (147 ∷ 1 ∷ kind ∷ 0 ∷ []) ++ body) ≡ length body + 4
     go true = omega arith
@@ -148,4 +148,4 @@ entry-long kind body = go (eqb kind 2)
 pub entry-put : (journal made body : List ℕ) (at kind : ℕ) → (length body ≤ 399) × (at + (length body + 4) ≤ length journal) → made ≡ entry kind body
     → putMid at (at + (length body + 4) - at) journal made ≡ overlay journal at (entry kind body)
 entry-put journal made body at kind pre e =
-    put-is at (at + (length body + 4)) journal made (omega arith) (pre .1) ∙ rw (e, entry-long kind body)
+    put-is at (at + (length body + 4)) journal made (omega arith) (pre .1) ∙ rw (e, length-entry kind body)

@@ -1,4 +1,4 @@
--- The history of a batch: whatever is called after an opening, file, counts and journal are what the standing list makes, and every answer is that of the rules.
+-- The history of a batch: lists of actions performed, openings, and undos after an accepted action.
 -- Assumes nothing.
 use Prim.Native.Nat.{ℕ, _%_}
 use mathlib.Core.Path.{_≡_, refl, sym, ap, _∙_, subst}
@@ -9,59 +9,46 @@ use native.Mathlib.Omega.{arith}
 use borrow.Author.Tests.{eq-eqb, eqb-true, leb-true, le-leb}
 use lib.Dec.{eqb, leb}
 use lib.ListN.{length}
+use Rattle.text.proofs.Booleans.{by-cond}
 use Rattle.text.specs.declared.Answer.{Answer}
 use Rattle.text.specs.Answers.{accepted}
 use Rattle.batch.specs.Batch.{Batch, Call, Open, Undo, rightLengths, sound, ready, answerTo, after}
-use Rattle.batch.specs.History.{Action, Addition, Amendment, Cancellation, callOf, undoRule, rules, made, InTurnBehind, InTurn, afterAll, answersOf, withoutLatest, standingAfter, standingFrom, standing, GoodLengths, History, Performed, Undoes}
-use Rattle.batch.proofs.Parsing.{by-cond}
-use Rattle.batch.proofs.Exactly.{Stands, stands-exactly, found}
-use Rattle.batch.proofs.Turning.{answered-by-rules, Taken, none-stands, opening, listAfter, turned}
+use Rattle.batch.specs.History.{Action, Addition, Amendment, Cancellation, callOf, undoRule, rules, made, InTurnBehind, InTurn, withoutLatest, standingAfter, standingByRule, standingBehind, answersBehind, Performed, GoodLengths, Undoes}
+use Rattle.batch.proofs.Exactly.{Stands, found}
+use Rattle.batch.proofs.Turning.{answered-by-rules, Taken, opening, turned}
 
--- ---- from any list that stands
-module _ (n m : ℕ) (good : rightLengths n m ≡ true) where
-  runs : (calls : List Call) (xs : List Action) → Stands n m xs → Taken n m (afterAll (made n m xs) calls) (standingFrom xs calls (answersOf (made n m xs) calls))
-  runs [] xs st = record { is = refl; stands = st }
-  runs (call ∷ calls) xs st =
-      let t = turned n m good xs st call in
-      subst (λ (b : Batch). Taken n m (afterAll b calls) (standingFrom (listAfter n m xs call) calls (answersOf b calls))) (sym (t .is))
-      (runs calls (listAfter n m xs call) (t .stands))
-
--- ---- what a list makes is what performing it makes, each call answering 0
+-- ---- an action that is accepted
 call-stands : (xs : List Action) (a : Action) → standingAfter xs (callOf a) ≡ xs ++ a ∷ []
 call-stands xs (Addition rec) = refl
 call-stands xs (Amendment rec) = refl
 call-stands xs (Cancellation id) = refl
 
+accepted-stands : (n m : ℕ) (xs : List Action) (a : Action) → rules n m xs (callOf a) .code ≡ 0 → standingByRule n m xs (callOf a) ≡ xs ++ a ∷ []
+accepted-stands n m xs a z = rw (eq-eqb (rules n m xs (callOf a) .code) 0 z) (call-stands xs a)
+
+-- ---- a list performed by the rules
+record PerformedBehind (n m : ℕ) (before xs : List Action) : Type 0 where
+  answers : answersBehind n m before (map callOf xs) ≡ map (λ a. accepted) xs
+  stands : standingBehind n m before (map callOf xs) ≡ before ++ xs
+
+perform : (n m : ℕ) (before xs : List Action) → InTurnBehind n m before xs → PerformedBehind n m before xs
+perform n m before [] t = record { answers = refl; stands = sym (append-nil before) }
+perform n m before (a ∷ xs) t =
+    let list = accepted-stands n m before a (ap (λ (r : Answer). r .code) (t .0)) in
+    let i = perform n m (before ++ a ∷ []) xs (t .1) in
+    record {
+      answers = λ j. t .0 j ∷ (ap (λ (ys : List Action). answersBehind n m ys (map callOf xs)) list ∙ i .answers) j;
+      stands = ap (λ (ys : List Action). standingBehind n m ys (map callOf xs)) list ∙ i .stands ∙ append-assoc before (a ∷ []) xs;
+    }
+
+pub performed : (n m : ℕ) (xs : List Action) → InTurn n m xs → Performed n m xs
+performed n m xs t = let p = perform n m [] xs t in record { answers = p .answers; stands = p .stands }
+
 module _ (n m : ℕ) (good : rightLengths n m ≡ true) where
   action-taken : (xs : List Action) (a : Action) → Stands n m xs → answerTo (made n m xs) (callOf a) .code ≡ 0 → Taken n m (after (made n m xs) (callOf a)) (xs ++ a ∷ [])
   action-taken xs a st z =
-      let list : listAfter n m xs (callOf a) ≡ xs ++ a ∷ [] = rw (eq-eqb (answerTo (made n m xs) (callOf a) .code) 0 z) (call-stands xs a) in
-      subst (Taken n m (after (made n m xs) (callOf a))) list (turned n m good xs st (callOf a))
-
-  perform : (before xs : List Action) → Stands n m before → InTurnBehind n m before xs → Performed n m (made n m before) xs (before ++ xs)
-  perform before [] st t = record { leaves = ap (made n m) (sym (append-nil before)); answers = refl }
-  perform before (a ∷ xs) st t =
-      let met : answerTo (made n m before) (callOf a) ≡ accepted = answered-by-rules n m good before st (callOf a) ∙ t .0 in
-      let k = action-taken before a st (ap (λ (r : Answer). r .code) met) in
-      let i = perform (before ++ a ∷ []) xs (k .stands) (t .1) in
-      record {
-        leaves = ap (λ (b : Batch). afterAll b (map callOf xs)) (k .is) ∙ i .leaves ∙ ap (made n m) (append-assoc before (a ∷ []) xs);
-        answers = λ j. met j ∷ (ap (λ (b : Batch). answersOf b (map callOf xs)) (k .is) ∙ i .answers) j;
-      }
-
-  -- ---- the history of what an opening made
-  history-of : (calls : List Call) → History n m (made n m []) calls
-  history-of calls =
-      let t = runs n m good calls [] (none-stands n m) in
-      let turn = stands-exactly n m (standing calls (answersOf (made n m []) calls)) .1 (t .stands) in
-      let p = perform [] (standing calls (answersOf (made n m []) calls)) (none-stands n m) turn in
-      record {
-        leaves = t .is;
-        inTurn = turn;
-        again = p .leaves ∙ sym (t .is);
-        accepts = p .answers;
-        answers = λ call. ap (λ (x : Batch). answerTo x call) (t .is) ∙ answered-by-rules n m good _ (t .stands) call;
-      }
+      let ruled = ap (λ (r : Answer). r .code) (sym (answered-by-rules n m good xs st (callOf a))) ∙ z in
+      subst (Taken n m (after (made n m xs) (callOf a))) (accepted-stands n m xs a ruled) (turned n m good xs st (callOf a))
 
 -- ---- the lengths
 pub lengths-exactly : (n m : ℕ) → (rightLengths n m ≡ true) ↔ GoodLengths n m
@@ -85,17 +72,9 @@ module _ (b : Batch) (g : GoodLengths (length (b .file)) (length (b .journal))) 
   unfolding answerTo
   opens = rw good-lengths
 
-  opened-is : after b Open ≡ made (length (b .file)) (length (b .journal)) []
+  pub opened-is : after b Open ≡ made (length (b .file)) (length (b .journal)) []
   unfolding after
   opened-is = rw opens (opening (length (b .file)) (length (b .journal)))
-
-  pub history : (calls : List Call) → History (length (b .file)) (length (b .journal)) (after b Open) calls
-  history calls = subst (λ (x : Batch). History (length (b .file)) (length (b .journal)) x calls) (sym opened-is) (history-of (length (b .file)) (length (b .journal)) good-lengths calls)
-
-  pub performed : (xs : List Action) → InTurn (length (b .file)) (length (b .journal)) xs → Performed (length (b .file)) (length (b .journal)) (after b Open) xs xs
-  performed xs t =
-      subst (λ (x : Batch). Performed (length (b .file)) (length (b .journal)) x xs xs) (sym opened-is)
-      (perform (length (b .file)) (length (b .journal)) good-lengths [] xs (none-stands (length (b .file)) (length (b .journal))) t)
 
 -- ---- an undo after an accepted action gives back the batch before it
 without-latest : (xs : List Action) (a : Action) → withoutLatest (xs ++ a ∷ []) ≡ xs
@@ -131,8 +110,9 @@ undoes : (n m : ℕ) → rightLengths n m ≡ true → (xs : List Action) (a : A
 unfolding rules
 undoes n m good xs a st q =
     let k = action-taken n m good xs a st q in
-    let met : answerTo (made n m (xs ++ a ∷ [])) Undo ≡ accepted = answered-by-rules n m good (xs ++ a ∷ []) (k .stands) Undo ∙ some-stands xs a in
-    let back : listAfter n m (xs ++ a ∷ []) Undo ≡ xs = rw met (without-latest xs a) in
+    let ruled : rules n m (xs ++ a ∷ []) Undo ≡ accepted = some-stands xs a in
+    let met : answerTo (made n m (xs ++ a ∷ [])) Undo ≡ accepted = answered-by-rules n m good (xs ++ a ∷ []) (k .stands) Undo ∙ ruled in
+    let back : standingByRule n m (xs ++ a ∷ []) Undo ≡ xs = rw ruled (without-latest xs a) in
     subst (λ (x : Batch). Undoes (made n m xs) x) (sym (k .is))
     record { answers = met; back = turned n m good (xs ++ a ∷ []) (k .stands) Undo .is ∙ ap (made n m) back }
 

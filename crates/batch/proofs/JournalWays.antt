@@ -11,13 +11,12 @@ use borrow.Author.Tests.{eq-eqb, ne-eqb, le-leb, lt-leb, leb-true, eqb-true, eqb
 use lib.Dec.{eqb, leb}
 use lib.ListN.{length, getD, take, drop}
 use Rattle.text.specs.declared.Answer.{Answer}
-use Rattle.text.specs.Answers.{answer, accepted}
+use Rattle.text.specs.Answers.{answer, accepted, orElse}
 use Rattle.text.proofs.Booleans.{clash}
 use Rattle.ident.specs.Identifier.{rightId}
 use Rattle.layout.specs.Layout.{fieldOf}
-use Rattle.record.specs.Columns.{orElse}
 use Rattle.record.specs.Rules.{recordAnswer}
-use Rattle.batch.specs.Actions.{seek, present, placeOf, isCancelled, idOf, liveAnswer, addAnswer, amendAnswer, cancelAnswer, withLine, withCancelled, actionAnswer, actionFile, actionHeld}
+use Rattle.batch.specs.Actions.{seek, present, placeOf, isCancelledAt, idOf, liveAnswer, addAnswer, amendAnswer, cancelAnswer, withLine, withCancelled, actionAnswer, actionFile, actionHeld}
 use Rattle.batch.specs.Journal.{bodyLength, entryLength, headStands, startsEntry, kindAt, bodyAt, stepAs}
 use Rattle.batch.specs.Duties.{Acceptable, Stepping, Moved, Stepped}
 
@@ -34,7 +33,7 @@ live-found : (file id : List ℕ) (held : ℕ) → liveAnswer file held id .code
 live-found file id held h = go (eqb (seek file id held) 0) refl h
   where
     go : (t : Bool) → eqb (seek file id held) 0 ≡ t
-        → cond (not t) (cond (isCancelled file (placeOf file id held)) (answer 233 0) accepted) (answer 232 0) .code ≡ 0 → 1 ≤ seek file id held
+        → cond (not t) (cond (isCancelledAt file (placeOf file id held)) (answer 233 0) accepted) (answer 232 0) .code ≡ 0 → 1 ≤ seek file id held
     go true e h = absurd (omega (arith, h))
     go false e h = let n = eqb-false (seek file id held) 0 e in omega arith
 

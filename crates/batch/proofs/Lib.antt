@@ -6,7 +6,7 @@ pub mod GuardWays
 pub mod CountWays
 pub mod CallWays
 pub mod Rows
-pub mod PrintedLines
+pub mod ZeroFilled
 pub mod Sheets
 pub mod Views
 pub mod OneMore
@@ -16,5 +16,6 @@ pub mod Parsing
 pub mod Exactly
 pub mod Turning
 pub mod History
+pub mod Demand
 pub mod SoundFile
 pub mod BatchCodes

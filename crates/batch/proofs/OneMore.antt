@@ -1,18 +1,17 @@
 -- The totals of a list of records with one record more, anywhere in it.
 -- Assumes nothing.
 use Prim.Native.Nat.{ℕ, _+_}
-use mathlib.Core.Path.{_≡_}
+use mathlib.Core.Path.{_≡_, refl}
 use mathlib.Core.Bool.{Bool, true, false, cond}
 use mathlib.Core.List.{List, [], _∷_, _++_, map}
-use native.Mathlib.Nat.{add-zero}
 use native.Mathlib.Omega.{arith}
 use lib.ListN.{length}
-use Rattle.layout.specs.Widths.{sum}
+use Rattle.text.specs.Lists.{sum}
 use Rattle.layout.specs.Layout.{fieldOf}
-use Rattle.fields.specs.declared.StatusReading.{StatusReading}
-use Rattle.fields.specs.declared.StatusReading.the-variants as Status
+use Rattle.fields.specs.declared.others.StatusReading.{StatusReading}
+use Rattle.fields.specs.declared.others.StatusReading.the-variants as Status
 use Rattle.fields.specs.Others.{readStatus}
-use Rattle.posting.specs.File.{totals, withStatus, withRecord}
+use Rattle.posting.specs.File.{totals, amountOf, broughtAs, brought, plusTotals, withRecord}
 use Rattle.posting.specs.Sums.{kept, isLive, isCancelled, live, cancelled, cashIn, priceIn, totalsOf}
 
 module _ (p : List ℕ → Bool) (rec : List ℕ) (ys : List (List ℕ)) where
@@ -44,20 +43,20 @@ module _ (p : List ℕ → Bool) (rec : List ℕ) (ys : List (List ℕ)) where
 
 -- a cancelled record is only counted, a live one brings its amounts
 pub totals-more : (xs : List (List ℕ)) (rec : List ℕ) (ys : List (List ℕ)) → totalsOf (xs ++ rec ∷ ys) ≡ withRecord (totalsOf (xs ++ ys)) rec
-unfolding withRecord
+unfolding brought
 totals-more xs rec ys =
-    rw (count-more isLiveThere rec ys xs, count-more isCancelledThere rec ys xs, sum-more isLiveThere rec ys cashIn xs, sum-more isLiveThere rec ys priceIn xs)
+    rw (count-more readsLive rec ys xs, count-more readsCancelled rec ys xs, sum-more readsLive rec ys cashIn xs, sum-more readsLive rec ys priceIn xs)
     (go (length (live (xs ++ ys))) (length (cancelled (xs ++ ys))) (sum (map cashIn (live (xs ++ ys)))) (sum (map priceIn (live (xs ++ ys)))) (readStatus (fieldOf rec 19)))
   where
-    isLiveThere : List ℕ → Bool
-    isLiveThere r = isLive (readStatus (fieldOf r 19))
+    readsLive : List ℕ → Bool
+    readsLive r = isLive (readStatus (fieldOf r 19))
 
-    isCancelledThere : List ℕ → Bool
-    isCancelledThere r = isCancelled (readStatus (fieldOf r 19))
+    readsCancelled : List ℕ → Bool
+    readsCancelled r = isCancelled (readStatus (fieldOf r 19))
 
     go : (l c d p : ℕ) (s : StatusReading)
         → totals (l + cond (isLive s) 1 0) (c + cond (isCancelled s) 1 0) (d + cond (isLive s) (cashIn rec) 0) (p + cond (isLive s) (priceIn rec) 0)
-        ≡ withStatus (totals l c d p) s (cashIn rec) (priceIn rec)
-    go l c d p Status.Live = rw (add-zero c)
-    go l c d p Status.Cancelled = rw (add-zero l, add-zero d, add-zero p)
-    go l c d p Status.Malformed = rw (add-zero l, add-zero c, add-zero d, add-zero p)
+        ≡ plusTotals (totals l c d p) (broughtAs s (amountOf rec 16) (amountOf rec 17))
+    go l c d p Status.Live = refl
+    go l c d p Status.Cancelled = refl
+    go l c d p Status.Malformed = refl

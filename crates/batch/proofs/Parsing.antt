@@ -10,18 +10,14 @@ use lib.Dec.{eqb, leb, ltb}
 use lib.ListN.{length, getD, take, drop, length-drop}
 use lib.Seq.{take-add, drop-drop, length-take-le}
 use Rattle.text.proofs.Lists.{step}
-use Rattle.text.proofs.Booleans.{clash}
+use Rattle.text.proofs.Booleans.{clash, by-cond}
+use Rattle.posting.specs.Records.{linesOf}
 use Rattle.batch.specs.Actions.{actionAnswer}
 use Rattle.batch.specs.Journal.{bodyLength, entryLength, head, headStands, startsEntry, kindAt, bodyAt, Run, runOf, stepAs, stepOf, replayFrom}
-use Rattle.batch.specs.History.{Action, Addition, Amendment, Cancellation, kindOf, bodyOf, recordsAfter, recordsFrom, zeroFilled, linesOf, entryOf, entriesOf}
+use Rattle.batch.specs.History.{Action, Addition, Amendment, Cancellation, kindOf, bodyOf, recordsAfter, recordsFrom, zeroFilled, entryOf, entriesOf}
 use Rattle.batch.proofs.Sheets.{Sheet, sheet-step, fits-step}
 use Rattle.batch.proofs.Views.{answer-view}
 use Rattle.batch.proofs.Printing.{Accepts, Ok, entry-long, step-view}
-
--- a property of a choice
-pub by-cond : {A : Type 0} (P : A → Type 0) (b : Bool) (x y : A) → (b ≡ true → P x) → (b ≡ false → P y) → P (cond b x y)
-by-cond P true x y f g = f refl
-by-cond P false x y f g = g refl
 
 -- ---- the entry that stands at u
 pub record Stood (j : List ℕ) (end u : ℕ) : Type 0 where

@@ -10,9 +10,11 @@ use borrow.Author.Tests.{eq-eqb, ne-eqb, lt-ltb, le-ltb, le-leb}
 use lib.Dec.{leb}
 use lib.ListN.{length, getD, take, drop, length-append}
 use lib.Seq.{getD-append-add, drop-append-add, take-at}
+use Rattle.posting.specs.Records.{linesOf}
 use Rattle.batch.specs.Actions.{actionAnswer, actionFile, actionHeld}
-use Rattle.batch.specs.Journal.{bodyLength, entryLength, kindAt, bodyAt, Run, runOf, stepAs, stepOf, replayFrom, zeros, rebuilt}
-use Rattle.batch.specs.History.{Action, Addition, Amendment, Cancellation, kindOf, bodyOf, recordsAfter, recordsFrom, recordsOf, actionRule, zeroFilled, linesOf, entryOf, entriesOf}
+use Rattle.batch.specs.Journal.{bodyLength, entryLength, HeadSays, kindAt, bodyAt, Run, runOf, stepAs, stepOf, replayFrom, zeros, rebuilt}
+use Rattle.batch.specs.History.{Action, Addition, Amendment, Cancellation, kindOf, bodyOf, recordsAfter, recordsFrom, recordsOf, actionRule, zeroFilled, entryOf, entriesOf}
+use Rattle.batch.proofs.GuardWays.{length-entry}
 use Rattle.batch.proofs.Sheets.{Sheet, sheet-none, sheet-step, held-step, fits-step}
 use Rattle.batch.proofs.Views.{answer-view, file-view}
 
@@ -27,9 +29,13 @@ Ok n recs (a ∷ xs) = Accepts n recs a × Ok n (recordsAfter recs a) xs
 
 -- ---- an entry that was printed is read back
 pub entry-long : (a : Action) → length (bodyOf a) ≡ bodyLength (kindOf a) → length (entryOf a) ≡ entryLength (kindOf a)
-entry-long (Addition rec) e = omega arith
-entry-long (Amendment rec) e = omega arith
-entry-long (Cancellation id) e = omega arith
+entry-long a e = length-entry (kindOf a) (bodyOf a) ∙ ap (λ (k : ℕ). k + 4) e
+
+-- the head of an entry says how long it is and which kind
+pub head-says : (a : Action) → length (bodyOf a) ≡ bodyLength (kindOf a) → HeadSays (kindOf a) (bodyOf a)
+head-says (Addition rec) e = rw e
+head-says (Amendment rec) e = rw e
+head-says (Cancellation id) e = rw e
 
 pub kind-some : (a : Action) → kindOf a ≡ 0 → ⊥
 kind-some (Addition rec) = λ e. omega (arith, e)

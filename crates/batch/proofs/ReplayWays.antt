@@ -13,9 +13,11 @@ use lib.ListN.{length, getD, take, drop, length-replicate}
 use Rattle.text.specs.Bytes.{every}
 use Rattle.text.proofs.Lists.{step, ended}
 use Rattle.posting.specs.declared.Totals.{Totals}
-use Rattle.posting.specs.Bounds.{Small, counted}
-use Rattle.posting.specs.File.{recordAt, noTotals, totalsOver}
-use Rattle.posting.proofs.Amounts.{totals-bounded, counts-small}
+use Rattle.posting.specs.declared.TotalsSum.{TotalsSum}
+use Rattle.posting.specs.Bounds.{Small}
+use Rattle.posting.specs.Calls.{sumOfTotals, totalOr}
+use Rattle.posting.specs.File.{recordAt, noTotals, brought, totalsOver}
+use Rattle.posting.proofs.Amounts.{small-so-far, small-with}
 use Rattle.batch.specs.declared.Walk.{Walk}
 use Rattle.batch.specs.Journal.{Run, runOf, stepOf, replayFrom, zeros, rebuilt}
 use Rattle.batch.specs.Duties.{Stepping, Stepped, Replayed}
@@ -59,12 +61,12 @@ module _ (journal : List ℕ) (end size : ℕ) (file : List ℕ) (held used last
     stepped : stepOf file journal end held used ≡ record { walk = r; file = after }
     stepped = run-is (stepOf file journal end held used) r after (s .walks) (s .files)
 
-    turned : rebuilt size journal end ≡ cond (r .good) (replayFrom (g .turns - 1) journal end (record { walk = r; file = after })) (record { walk = r; file = after })
+    one-step : rebuilt size journal end ≡ cond (r .good) (replayFrom (g .turns - 1) journal end (record { walk = r; file = after })) (record { walk = r; file = after })
     unfolding replayFrom
-    turned = sym (g .same) ∙ ap (λ (k : ℕ). replayFrom k journal end (runOf true held used last file)) turn-left ∙ rw (lt-ltb used end l, stepped)
+    one-step = sym (g .same) ∙ ap (λ (k : ℕ). replayFrom k journal end (runOf true held used last file)) turn-left ∙ rw (lt-ltb used end l, stepped)
 
     failed : r .good ≡ false → rebuilt size journal end ≡ record { walk = r; file = after }
-    failed n = turned ∙ rw n
+    failed n = one-step ∙ rw n
 
     pub going-on : r .good ≡ true → length after ≡ length file → Going journal end size after (r .held) (r .used) (r .last)
     going-on y long =
@@ -73,7 +75,7 @@ module _ (journal : List ℕ) (end size : ℕ) (file : List ℕ) (held used last
         record {
           turns = g .turns - 1;
           enough = omega (arith, g .enough, m .forward, m .before);
-          same = sym (turned ∙ ap (λ (b : Bool). cond b (replayFrom (g .turns - 1) journal end (record { walk = r; file = after })) (record { walk = r; file = after })) y ∙ ap (replayFrom (g .turns - 1) journal end) eta);
+          same = sym (one-step ∙ ap (λ (b : Bool). cond b (replayFrom (g .turns - 1) journal end (record { walk = r; file = after })) (record { walk = r; file = after })) y ∙ ap (replayFrom (g .turns - 1) journal end) eta);
           few = m .few;
           fits = rw (← g .long) (m .fits);
           before = m .before;
@@ -138,19 +140,17 @@ unfolding every
 zero-ends s i r known h = rw (ended s i h) at known
 
 -- ---- totals_over
-pub small-so-far : (file : List ℕ) (n : ℕ) → n < 1000 → Small (totalsOver file n)
-small-so-far file n h =
-    let b = totals-bounded file n in
-    record { live = omega (arith, b .counts); cancelled = omega (arith, b .counts); cash = omega (arith, b .cash); price = omega (arith, b .price) }
-
 pub totals-start : (file : List ℕ) → noTotals ≡ totalsOver file 0
 unfolding totalsOver
 totals-start file = refl
 
-pub totals-on : (file : List ℕ) (n i : ℕ) (t t′ : Totals) → (n ≤ 999) × (n * 401 ≤ length file) → i < n → t ≡ totalsOver file i → t′ ≡ counted t (take (i * 401 + 399 - i * 401) (drop (i * 401) file)) → t′ ≡ totalsOver file (i + 1)
+pub totals-on : (file : List ℕ) (n i : ℕ) (t b t′ : Totals) (s : TotalsSum) → (n ≤ 999) × (n * 401 ≤ length file) → i < n → t ≡ totalsOver file i
+    → b ≡ brought (take (i * 401 + 399 - i * 401) (drop (i * 401) file)) → s ≡ sumOfTotals t b → t′ ≡ totalOr s t → t′ ≡ totalsOver file (i + 1)
 unfolding totalsOver
-totals-on file n i t t′ pre h e e′ =
-    e′ ∙ rw (add-sub-cancel-left, e, counts-small (totalsOver file i) (recordAt file i) (small-so-far file i (omega (arith, pre .0))), add-one i)
+totals-on file n i t b t′ s pre h e eb es er =
+    let small : Small t = rw e (small-so-far file i (omega (arith, pre .0))) in
+    let here : b ≡ brought (recordAt file i) = eb ∙ rw add-sub-cancel-left in
+    small-with t b t′ s (recordAt file i) small here es er ∙ rw (e, add-one i)
 
 pub totals-end : (file : List ℕ) (n i : ℕ) (t : Totals) → i ≤ n → n ≤ i → t ≡ totalsOver file i → t ≡ totalsOver file n
 totals-end file n i t a b e = let z : i ≡ n = omega arith in rw z at e

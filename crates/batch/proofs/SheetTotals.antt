@@ -1,38 +1,41 @@
--- The totals of a batch are those of its records, before and after an action; its file, cut behind the last record, passes the file check with the same totals.
+-- The totals of a batch are those of its records, before and after an action; its records make a good file.
 -- Assumes nothing.
 use Prim.Native.Nat.{ℕ, suc, _+_, _-_, _*_, _/_, _≤_, _<_}
 use mathlib.Core.Path.{_≡_, sym, ap, _∙_}
 use mathlib.Core.Bool.{false}
 use mathlib.Core.List.{List, [], _∷_, _++_, map, append-nil}
+use native.Mathlib.Nat.{add-zero}
 use native.Mathlib.Omega.{arith}
-use lib.ListN.{length, getD, take, drop, length-append}
+use lib.ListN.{length, getD, take, drop}
 use lib.Seq.{split-at, set-split}
 use Rattle.layout.specs.Layout.{fieldOf}
 use Rattle.fields.proofs.OtherLaws.{live-exactly, cancelled-exactly}
+use Rattle.record.proofs.Order.{accepted-exactly}
 use Rattle.record.proofs.Status.{posting-passes, cancelled-rec-status}
 use Rattle.posting.specs.declared.Totals.{Totals}
-use Rattle.posting.specs.File.{recordAt, lineAnswer, totals, withRecord, totalsOver, recordsIn, fileAnswer, passed}
+use Rattle.posting.specs.File.{recordAt, totals, brought, withRecord, totalsOver}
 use Rattle.posting.specs.Sums.{cashIn, priceIn, totalsOf}
-use Rattle.posting.proofs.Lines.{RightLine, line-right-exactly}
-use Rattle.posting.proofs.FirstBreak.{no-break, outcome-exactly}
+use Rattle.posting.proofs.PrintedLines.{totals-there}
+use Rattle.posting.specs.Records.{linesOf, GoodRecords}
 use Rattle.batch.specs.Actions.{idOf, placeOf, oneLiveMore, oneCancelled, amountsReplaced}
 use Rattle.batch.specs.Journal.{zeros}
 use Rattle.batch.specs.Batch.{batchOf, countsOf, actionTotals}
-use Rattle.batch.specs.History.{Action, Addition, Amendment, Cancellation, kindOf, bodyOf, isCancelledRec, cancelledRec, hasId, cancelledFor, isCancelledThere, recordsAfter, actionRule, zeroFilled, linesOf}
+use Rattle.record.specs.Readings.{cancelledRec}
+use Rattle.batch.specs.History.{Action, Addition, Amendment, Cancellation, kindOf, bodyOf, isCancelledRec, hasId, cancelledFor, isCancelledThere, recordsAfter, actionRule, zeroFilled}
 use Rattle.batch.proofs.Rows.{changed}
-use Rattle.batch.proofs.PrintedLines.{ended-there, totals-there}
 use Rattle.batch.proofs.Sheets.{Sheet, adds, amends, cancels}
-use Rattle.batch.proofs.Views.{long-of, lines-long, cancelled-there, changed-there, record-view, id-view, Touched, touched}
+use Rattle.batch.proofs.Views.{long-of, cancelled-there, changed-there, record-view, Touched, touched}
 use Rattle.batch.proofs.OneMore.{totals-more}
 
 -- ---- one record more, replaced or cancelled, in the totals
 live-more : (t : Totals) (rec : List ℕ) → fieldOf rec 19 ≡ 32 ∷ 32 ∷ [] → withRecord t rec ≡ oneLiveMore t (cashIn rec) (priceIn rec)
-unfolding withRecord
-live-more t rec blank = let status = live-exactly (fieldOf rec 19) .1 blank in rw status
+unfolding brought
+live-more t rec blank = let status = live-exactly (fieldOf rec 19) .1 blank in rw (status, add-zero (t .cancelled))
 
 cancelled-more : (t : Totals) (rec : List ℕ) → fieldOf rec 19 ≡ 48 ∷ 32 ∷ [] → withRecord t rec ≡ totals (t .live) (t .cancelled + 1) (t .cash .0) (t .price .0)
-unfolding withRecord
-cancelled-more t rec struck = let status = cancelled-exactly (fieldOf rec 19) .1 struck in rw status
+unfolding brought
+cancelled-more t rec struck =
+    let status = cancelled-exactly (fieldOf rec 19) .1 struck in rw (status, add-zero (t .live), add-zero (t .cash .0), add-zero (t .price .0))
 
 -- what was added comes off again
 off : (a d : ℕ) → a + d - d ≡ a
@@ -111,18 +114,10 @@ module _ (n : ℕ) (recs : List (List ℕ)) (s : Sheet recs) where
       cancel-step recs s behind id (touched recs s behind id (p .0)) (p .1)
 
 -- ---- the file, cut behind its last record
-right-there : (recs : List (List ℕ)) (s : Sheet recs) (i : ℕ) → i < length recs → RightLine (linesOf recs ++ []) i
-right-there recs s i h = record {
-  ended = ended-there recs [] i (long-of recs s) h;
-  table = rw (record-view recs s [] i h) (s .each i h .passes);
-  fresh = λ j l e. let same = s .apart j i (omega arith) h (sym (id-view recs s [] j (omega arith)) ∙ e ∙ id-view recs s [] i h) in omega arith;
+pub good-records : (recs : List (List ℕ)) → Sheet recs → length recs ≤ 999 → GoodRecords recs
+good-records recs s few = record {
+  few = few;
+  wide = long-of recs s;
+  keeps = λ i h. accepted-exactly false (getD recs i []) (s .each i h .long) .0 (s .each i h .passes);
+  apart = λ i j l h e. let same = s .apart i j (omega arith) h e in omega arith;
 }
-
-pub file-passes : (recs : List (List ℕ)) → Sheet recs → length recs ≤ 999 → fileAnswer (linesOf recs) ≡ passed (totalsOf recs)
-file-passes recs s few =
-    let long : length (linesOf recs ++ []) ≡ length recs * 401 = omega (arith, length-append (linesOf recs) [], lines-long recs s) in
-    let many : recordsIn (linesOf recs ++ []) ≡ length recs = omega arith in
-    let lines : (i : ℕ) → i < recordsIn (linesOf recs ++ []) → lineAnswer (linesOf recs ++ []) i .code ≡ 0 = λ i h. line-right-exactly (linesOf recs ++ []) i .1 (right-there recs s i (omega arith)) in
-    let counts : totalsOf recs ≡ totalsOver (linesOf recs ++ []) (recordsIn (linesOf recs ++ [])) = rw many (sym (totals-there recs [] (long-of recs s))) in
-    ap fileAnswer (sym (append-nil (linesOf recs)))
-    ∙ sym (outcome-exactly (linesOf recs ++ []) (passed (totalsOf recs)) .0 (no-break (omega arith) (omega arith) lines (ap passed counts)))

@@ -16,7 +16,8 @@ use Rattle.layout.specs.Layout.{fieldOf}
 use Rattle.record.specs.Rules.{recordAnswer}
 use Rattle.record.proofs.Status.{posting-passes, cancelled-rec-long, cancelled-rec-others, cancelled-rec-status, cancelled-rec-passes}
 use Rattle.batch.specs.Actions.{idOf, actionHeld}
-use Rattle.batch.specs.History.{Action, Addition, Amendment, Cancellation, kindOf, isCancelledRec, cancelledRec, hasId, replacedBy, cancelledFor, isPresent, isCancelledThere, liveRule, recordsAfter, actionRule}
+use Rattle.record.specs.Readings.{cancelledRec}
+use Rattle.batch.specs.History.{Action, Addition, Amendment, Cancellation, kindOf, isCancelledRec, hasId, replacedBy, cancelledFor, isPresent, isCancelledThere, liveRule, recordsAfter, actionRule}
 use Rattle.batch.proofs.JournalWays.{or-both}
 use Rattle.batch.proofs.Rows.{length-last, PlaceIn, earlier, last, place-in, length-map, map-nth, none-at}
 
@@ -35,11 +36,7 @@ pub record Sheet (recs : List (List ℕ)) : Type 0 where
 pub sheet-none : Sheet []
 sheet-none = record { each = λ i h. absurd (omega arith); apart = λ i j h g e. absurd (omega arith) }
 
--- ---- fields of a record of 399 bytes
-pub id-is : (rec : List ℕ) → length rec ≡ 399 → idOf rec ≡ take 13 rec
-unfolding fieldOf
-id-is rec long = rw long
-
+-- ---- the status of a record of 399 bytes
 pub status-is : (rec : List ℕ) → length rec ≡ 399 → fieldOf rec 19 ≡ take 2 (drop 340 rec)
 unfolding fieldOf
 status-is rec long = rw long

@@ -12,13 +12,15 @@ use Rattle.text.specs.declared.Answer.{Answer}
 use Rattle.text.specs.Lists.{overlay}
 use Rattle.text.proofs.Lists.{same-exactly}
 use Rattle.posting.specs.File.{lineOf}
+use Rattle.posting.specs.Records.{linesOf}
+use Rattle.posting.proofs.GoodFile.{file-passes}
 use Rattle.batch.specs.Actions.{idOf, withLine, placeOf, actionFile}
 use Rattle.batch.specs.Journal.{zeros}
 use Rattle.batch.specs.Batch.{Batch, Amend, rightLengths, sound, answerTo, entered, after}
-use Rattle.batch.specs.History.{Action, Amendment, zeroFilled, linesOf, recordsOf, entriesOf, rules, made, AmendsOnePlace, GoodFileOf, GoodLengths}
+use Rattle.batch.specs.History.{Action, Amendment, zeroFilled, recordsOf, entriesOf, rules, made, AmendsOnePlace, GoodFileOf, GoodLengths}
 use Rattle.batch.proofs.Sheets.{amends}
 use Rattle.batch.proofs.Views.{lines-long, id-view, Touched, touched}
-use Rattle.batch.proofs.SheetTotals.{file-passes}
+use Rattle.batch.proofs.SheetTotals.{good-records}
 use Rattle.batch.proofs.Exactly.{Stands, accepted-entry, sheet-made, fits-made, file-long, found}
 use Rattle.batch.proofs.Turning.{answered-by-rules}
 use Rattle.batch.proofs.History.{accepted-passes}
@@ -34,7 +36,7 @@ sheet-file n m bound xs st =
       many = refl;
       bytes = ap (λ (k : ℕ). zeroFilled k (linesOf (recordsOf xs))) (sym (file-long n m xs st));
       cut = take-at (linesOf (recordsOf xs)) (zeros (n - length (linesOf (recordsOf xs)))) (length (recordsOf xs) * 401) (lines-long (recordsOf xs) s);
-      passes = file-passes (recordsOf xs) s (omega arith);
+      passes = file-passes (recordsOf xs) (good-records (recordsOf xs) s (omega arith));
     }
 
 pub sound-file : (b : Batch) → GoodLengths (length (b .file)) (length (b .journal)) → sound b ≡ true → GoodFileOf b

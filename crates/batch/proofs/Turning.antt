@@ -14,10 +14,11 @@ use Rattle.text.specs.Answers.{answer, accepted}
 use Rattle.text.specs.Lists.{overlay}
 use Rattle.posting.specs.File.{totalsOver}
 use Rattle.posting.specs.Sums.{kept, totalsOf}
+use Rattle.posting.specs.Records.{linesOf}
 use Rattle.batch.specs.Journal.{entryLength, Run, runOf, zeros, rebuilt}
 use Rattle.batch.specs.Batch.{Batch, batchOf, noCounts, Call, Open, Add, Amend, Cancel, Undo, rightLengths, ready, entryAnswer, workAnswer, answerTo, entered, latest, undone, opened, done, unchanged, after}
-use Rattle.batch.specs.History.{Action, Addition, Amendment, Cancellation, kindOf, bodyOf, recordsAfter, recordsOf, entryRule, undoRule, rules, zeroFilled, linesOf, entryOf, entriesOf, made, withoutLatest, standingAfter}
-use Rattle.batch.proofs.PrintedLines.{filled-more, filled-less}
+use Rattle.batch.specs.History.{Action, Addition, Amendment, Cancellation, kindOf, bodyOf, recordsAfter, recordsOf, entryRule, undoRule, rules, zeroFilled, entryOf, entriesOf, made, withoutLatest, standingAfter, standingByRule}
+use Rattle.batch.proofs.ZeroFilled.{filled-more, filled-less}
 use Rattle.batch.proofs.Sheets.{held-step}
 use Rattle.batch.proofs.Views.{answer-view, file-view}
 use Rattle.batch.proofs.SheetTotals.{totals-view, totals-step}
@@ -152,10 +153,6 @@ undo-taken n m (a ∷ xs) st z =
     (λ s. record { is = undone-is n m (withoutLatest (a ∷ xs)) (i .0) s; stands = stands-back n m (withoutLatest (a ∷ xs)) (i .0) s }) st
 
 -- ---- every call
--- the standing list after a call
-abbrev pub listAfter : ℕ → ℕ → List Action → Call → List Action
-listAfter n m xs call = cond (eqb (answerTo (made n m xs) call .code) 0) (standingAfter xs call) xs
-
 module _ (n m : ℕ) (good : rightLengths n m ≡ true) (xs : List Action) (st : Stands n m xs) where
   open-taken : Taken n m (opened (made n m xs)) []
   unfolding made
@@ -177,13 +174,10 @@ module _ (n m : ℕ) (good : rightLengths n m ≡ true) (xs : List Action) (st :
   unchanged-is (Cancel id) z = refl
   unchanged-is Undo z = refl
 
-  pub turned : (call : Call) → Taken n m (after (made n m xs) call) (listAfter n m xs call)
+  pub turned : (call : Call) → Taken n m (after (made n m xs) call) (standingByRule n m xs call)
   unfolding after
-  turned call = go (eqb (answerTo (made n m xs) call .code) 0) refl
+  turned call = rw (answered-by-rules n m good xs st call) (go (eqb (rules n m xs call .code) 0) refl)
     where
-      ruled : answerTo (made n m xs) call .code ≡ rules n m xs call .code
-      ruled = ap (λ (r : Answer). r .code) (answered-by-rules n m good xs st call)
-
-      go : (t : Bool) → eqb (answerTo (made n m xs) call .code) 0 ≡ t → Taken n m (cond t (done (made n m xs) call) (unchanged (made n m xs) call)) (cond t (standingAfter xs call) xs)
-      go true e = taken call (sym ruled ∙ eqb-true _ 0 e)
-      go false e = record { is = unchanged-is call (λ z. eqb-false _ 0 e (ruled ∙ z)); stands = st }
+      go : (t : Bool) → eqb (rules n m xs call .code) 0 ≡ t → Taken n m (cond t (done (made n m xs) call) (unchanged (made n m xs) call)) (cond t (standingAfter xs call) xs)
+      go true e = taken call (eqb-true _ 0 e)
+      go false e = record { is = unchanged-is call (eqb-false _ 0 e); stands = st }

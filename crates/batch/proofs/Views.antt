@@ -8,17 +8,20 @@ use native.Mathlib.Omega.{arith}
 use borrow.Author.Tests.{eqb-true, eqb-false, ne-eqb, le-leb, lt-leb, ltb-true, ltb-false}
 use lib.Dec.{eqb, ltb, leb}
 use lib.ListN.{length, getD, take, drop, set}
-use lib.Seq.{take-take, getD-take, getD-drop}
+use lib.Seq.{getD-take, getD-drop}
 use Rattle.text.specs.Lists.{sameBytes, overlay}
 use Rattle.text.proofs.Booleans.{clash}
 use Rattle.text.proofs.Lists.{same-exactly}
 use Rattle.posting.specs.File.{lineOf, recordAt, idAt}
-use Rattle.batch.specs.Actions.{seek, present, placeOf, isCancelled, idOf, liveAnswer, addAnswer, amendAnswer, cancelAnswer, withLine, withCancelled, actionAnswer, actionFile}
+use Rattle.posting.specs.Records.{linesOf}
+use Rattle.posting.proofs.PrintedLines.{Long, all-lines-long, lines-last, record-there, id-there, byte-there, line-replaced, bytes-changed}
+use Rattle.batch.specs.Actions.{seek, present, placeOf, isCancelledAt, idOf, liveAnswer, addAnswer, amendAnswer, cancelAnswer, withLine, withCancelled, actionAnswer, actionFile}
 use Rattle.batch.specs.Journal.{zeros}
-use Rattle.batch.specs.History.{Action, Addition, Amendment, Cancellation, kindOf, bodyOf, hasId, isCancelledRec, cancelledRec, replacedBy, cancelledFor, isPresent, isCancelledThere, liveRule, recordsAfter, actionRule, zeroFilled, linesOf}
+use Rattle.record.specs.Readings.{cancelledRec}
+use Rattle.batch.specs.History.{Action, Addition, Amendment, Cancellation, kindOf, bodyOf, hasId, isCancelledRec, replacedBy, cancelledFor, isPresent, isCancelledThere, liveRule, recordsAfter, actionRule, zeroFilled}
 use Rattle.batch.proofs.Rows.{length-map, changed, map-one, some-at, none-passes}
-use Rattle.batch.proofs.PrintedLines.{Long, filled-long, filled-more, all-lines-long, lines-last, record-there, byte-there, line-replaced, bytes-changed}
-use Rattle.batch.proofs.Sheets.{Sheet, id-is, status-is, amends, cancels, kept-posting, sheet-step}
+use Rattle.batch.proofs.ZeroFilled.{filled-long, filled-more}
+use Rattle.batch.proofs.Sheets.{Sheet, status-is, amends, cancels, kept-posting, sheet-step}
 
 pub long-of : (recs : List (List ℕ)) → Sheet recs → Long recs
 long-of recs s = λ i h. s .each i h .long
@@ -77,12 +80,10 @@ module _ (recs : List (List ℕ)) (s : Sheet recs) (t : List ℕ) where
   record-view i h = record-there recs t i (long-of recs s) h
 
   pub id-view : (i : ℕ) → i < length recs → idAt (linesOf recs ++ t) i ≡ idOf (getD recs i [])
-  id-view i h =
-      sym (take-take 13 399 (drop (i * 401) (linesOf recs ++ t)) (omega arith)) ∙ ap (λ (y : List ℕ). take 13 y) (record-view i h)
-      ∙ sym (id-is (getD recs i []) (s .each i h .long))
+  id-view i h = id-there recs t i (long-of recs s) h
 
   -- the first byte of the status tells a cancelled record
-  pub cancelled-view : (i : ℕ) → i < length recs → isCancelled (linesOf recs ++ t) i ≡ isCancelledRec (getD recs i [])
+  pub cancelled-view : (i : ℕ) → i < length recs → isCancelledAt (linesOf recs ++ t) i ≡ isCancelledRec (getD recs i [])
   cancelled-view i h =
       let rec = getD recs i [] in
       let k = s .each i h in

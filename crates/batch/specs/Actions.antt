@@ -8,11 +8,10 @@ use mathlib.Core.List.{List, [], _∷_, _++_}
 use lib.ListN.{length, getD, set}
 use lib.Dec.{eqb, leb}
 use Rattle.text.specs.declared.Answer.{Answer}
-use Rattle.text.specs.Answers.{answer, accepted}
+use Rattle.text.specs.Answers.{answer, accepted, orElse}
 use Rattle.text.specs.Lists.{sameBytes, overlay}
 use Rattle.ident.specs.Identifier.{rightId}
 use Rattle.layout.specs.Layout.{fieldOf}
-use Rattle.record.specs.Columns.{orElse}
 use Rattle.record.specs.Rules.{recordAnswer}
 use Rattle.posting.specs.declared.Totals.{Totals}
 use Rattle.posting.specs.File.{lineOf, idAt, totals}
@@ -31,8 +30,8 @@ placeOf file id held = seek file id held - 1
 
 -- the record at a place is cancelled: the first byte of its status, field 19, is "0"
 -- In a batch that passed the test the status is then "0 " (`Views: cancelled-view`).
-abbrev pub isCancelled : List ℕ → ℕ → Bool
-isCancelled file k = eqb (getD file (k * 401 + 340) 0) 48
+abbrev pub isCancelledAt : List ℕ → ℕ → Bool
+isCancelledAt file k = eqb (getD file (k * 401 + 340) 0) 48
 
 abbrev pub idOf : List ℕ → List ℕ
 idOf rec = fieldOf rec 1
@@ -41,7 +40,7 @@ idOf rec = fieldOf rec 1
 -- the identifier is present and not cancelled
 abbrev pub liveAnswer : List ℕ → ℕ → List ℕ → Answer
 liveAnswer file held id =
-    cond (present file id held) (cond (isCancelled file (placeOf file id held)) (answer 233 0) accepted) (answer 232 0)
+    cond (present file id held) (cond (isCancelledAt file (placeOf file id held)) (answer 233 0) accepted) (answer 232 0)
 
 unfoldable pub addAnswer : List ℕ → ℕ → List ℕ → Answer
 addAnswer file held rec =

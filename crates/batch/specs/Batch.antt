@@ -7,10 +7,9 @@ use mathlib.Core.List.{List, [], _∷_, _++_}
 use lib.ListN.{length, getD, take, drop}
 use lib.Dec.{eqb, leb, ltb}
 use Rattle.text.specs.declared.Answer.{Answer}
-use Rattle.text.specs.Answers.{answer, accepted}
+use Rattle.text.specs.Answers.{answer, accepted, orElse}
 use Rattle.text.specs.Bytes.{every}
 use Rattle.text.specs.Lists.{sameBytes, overlay}
-use Rattle.record.specs.Columns.{orElse}
 use Rattle.posting.specs.declared.Totals.{Totals}
 use Rattle.posting.specs.File.{recordAt, noTotals, totalsOver}
 use Rattle.posting.specs.Sums.{cashIn, priceIn}

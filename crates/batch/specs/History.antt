@@ -1,4 +1,4 @@
--- The history of a batch, in the paper's words: actions, the records that they make, the rules over those records, and what stands after a run of calls.
+-- The history of a batch, in the paper's words: actions, the records that they make, the rules over those records, and what stands after calls.
 -- No buffer, count or replay is in the rules: a batch is its list of standing actions.
 -- Assumes nothing.
 use Prim.Native.Nat.{ℕ, _+_, _-_, _*_, _/_, _%_, _≤_, _<_}
@@ -8,14 +8,15 @@ use mathlib.Core.List.{List, [], _∷_, _++_, map}
 use lib.ListN.{length, take, drop, set}
 use lib.Dec.{eqb, ltb, leb}
 use Rattle.text.specs.declared.Answer.{Answer}
-use Rattle.text.specs.Answers.{answer, accepted}
+use Rattle.text.specs.Answers.{answer, accepted, orElse}
 use Rattle.text.specs.Lists.{sameBytes}
 use Rattle.ident.specs.Identifier.{rightId}
-use Rattle.layout.specs.Widths.{joined}
+use Rattle.text.specs.Lists.{joined}
 use Rattle.layout.specs.Layout.{fieldOf}
-use Rattle.record.specs.Columns.{orElse}
+use Rattle.record.specs.Readings.{cancelledRec}
 use Rattle.record.specs.Rules.{recordAnswer}
 use Rattle.posting.specs.File.{lineOf, idAt, fileAnswer, passed}
+use Rattle.posting.specs.Records.{linesOf}
 use Rattle.posting.specs.Sums.{totalsOf}
 use Rattle.batch.specs.Actions.{idOf}
 use Rattle.batch.specs.Journal.{bodyLength, entryLength, entry, zeros}
@@ -33,10 +34,7 @@ callOf (Amendment rec) = Amend rec
 callOf (Cancellation id) = Cancel id
 
 -- ---- the records that a list of actions makes
--- a record with status "0 ", and whether it has that: field 19, bytes 340 and 341
-abbrev pub cancelledRec : List ℕ → List ℕ
-cancelledRec rec = set (set rec 340 48) 341 32
-
+-- its status is "0 "
 abbrev pub isCancelledRec : List ℕ → Bool
 isCancelledRec rec = sameBytes (fieldOf rec 19) (48 ∷ 32 ∷ [])
 
@@ -119,9 +117,6 @@ ruleFor recs places room xs Undo = undoRule xs
 abbrev pub zeroFilled : ℕ → List ℕ → List ℕ
 zeroFilled n s = s ++ zeros (n - length s)
 
-abbrev pub linesOf : List (List ℕ) → List ℕ
-linesOf recs = joined (map lineOf recs)
-
 abbrev pub entryOf : Action → List ℕ
 entryOf a = entry (kindOf a) (bodyOf a)
 
@@ -146,15 +141,6 @@ InTurnBehind n m before (a ∷ xs) = (rules n m before (callOf a) ≡ accepted) 
 abbrev pub InTurn : ℕ → ℕ → List Action → Type 0
 InTurn n m xs = InTurnBehind n m [] xs
 
--- ---- a run of calls: the batch that it leaves, and the answers that it gave
-abbrev pub afterAll : Batch → List Call → Batch
-afterAll b [] = b
-afterAll b (call ∷ calls) = afterAll (after b call) calls
-
-abbrev pub answersOf : Batch → List Call → List Answer
-answersOf b [] = []
-answersOf b (call ∷ calls) = answerTo b call ∷ answersOf (after b call) calls
-
 -- ---- the standing list: the accepted actions, each accepted undo striking out the latest still standing; an accepted opening starts anew
 abbrev pub withoutLatest : List Action → List Action
 withoutLatest [] = []
@@ -168,14 +154,29 @@ standingAfter xs (Amend rec) = xs ++ Amendment rec ∷ []
 standingAfter xs (Cancel id) = xs ++ Cancellation id ∷ []
 standingAfter xs Undo = withoutLatest xs
 
--- goes by the answers that were given: code 0 accepts
-abbrev pub standingFrom : List Action → List Call → List Answer → List Action
-standingFrom xs [] answers = xs
-standingFrom xs (call ∷ calls) [] = xs
-standingFrom xs (call ∷ calls) (r ∷ answers) = standingFrom (cond (eqb (r .code) 0) (standingAfter xs call) xs) calls answers
+-- after a call by the rules: a refused one leaves the list
+abbrev pub standingByRule : ℕ → ℕ → List Action → Call → List Action
+standingByRule n m xs call = cond (eqb (rules n m xs call .code) 0) (standingAfter xs call) xs
 
-abbrev pub standing : List Call → List Answer → List Action
-standing calls answers = standingFrom [] calls answers
+-- after these calls by the rules, and the answers that the rules give: behind a list that stands, and behind an opening
+abbrev pub standingBehind : ℕ → ℕ → List Action → List Call → List Action
+standingBehind n m xs [] = xs
+standingBehind n m xs (call ∷ calls) = standingBehind n m (standingByRule n m xs call) calls
+
+abbrev pub answersBehind : ℕ → ℕ → List Action → List Call → List Answer
+answersBehind n m xs [] = []
+answersBehind n m xs (call ∷ calls) = rules n m xs call ∷ answersBehind n m (standingByRule n m xs call) calls
+
+abbrev pub standingByRules : ℕ → ℕ → List Call → List Action
+standingByRules n m calls = standingBehind n m [] calls
+
+abbrev pub answersByRules : ℕ → ℕ → List Call → List Answer
+answersByRules n m calls = answersBehind n m [] calls
+
+-- a list of actions performed as calls, by the rules: each is accepted, and they are what stands
+pub record Performed (n m : ℕ) (xs : List Action) : Type 0 where
+  pub answers : answersByRules n m (map callOf xs) ≡ map (λ a. accepted) xs
+  pub stands : standingByRules n m (map callOf xs) ≡ xs
 
 -- ---- the lengths of the two buffers: a multiple of 401 from 401 to 400,599, and 403 to 1,048,576
 pub record GoodLengths (n m : ℕ) : Type 0 where
@@ -184,23 +185,6 @@ pub record GoodLengths (n m : ℕ) : Type 0 where
   pub most : n ≤ 400599
   pub journalLeast : 403 ≤ m
   pub journalMost : m ≤ 1048576
-
--- ---- the history: b is fresh from an opening, and these calls were made
--- What holds after any list of calls holds after each beginning of it, so `answers` speaks of every answer on the way.
-pub record History (n m : ℕ) (b : Batch) (calls : List Call) : Type 0 where
-  -- file, counts and journal are, to the byte, what the standing list makes
-  pub leaves : afterAll b calls ≡ made n m (standing calls (answersOf b calls))
-  -- its actions are acceptable in their turn, and performing them from the opening leaves the same, each answering 0
-  pub inTurn : InTurn n m (standing calls (answersOf b calls))
-  pub again : afterAll b (map callOf (standing calls (answersOf b calls))) ≡ afterAll b calls
-  pub accepts : answersOf b (map callOf (standing calls (answersOf b calls))) ≡ map (λ a. accepted) (standing calls (answersOf b calls))
-  -- whatever is called next is answered as the rules say
-  pub answers : (call : Call) → answerTo (afterAll b calls) call ≡ rules n m (standing calls (answersOf b calls)) call
-
--- ---- a list of actions performed as calls, each answering 0
-pub record Performed (n m : ℕ) (b : Batch) (xs all : List Action) : Type 0 where
-  pub leaves : afterAll b (map callOf xs) ≡ made n m all
-  pub answers : answersOf b (map callOf xs) ≡ map (λ a. accepted) xs
 
 -- ---- an undo after an accepted action: it is accepted, and gives back the batch before
 pub record Undoes (before b : Batch) : Type 0 where

@@ -1,6 +1,6 @@
 -- The journal in its house form, and its replay: what its entries, each acceptable in its turn, make from an opening.
 -- Assumes nothing.
-use Prim.Native.Nat.{ℕ, zero, suc, _+_, _-_}
+use Prim.Native.Nat.{ℕ, zero, suc, _+_, _-_, _/_, _%_}
 use mathlib.Core.Bool.{Bool, true, false, cond, _&&_}
 use mathlib.Core.Path.{_≡_, refl}
 use mathlib.Core.List.{List, [], _∷_, _++_}
@@ -22,6 +22,14 @@ head kind = cond (eqb kind 2) (17 ∷ 0 ∷ kind ∷ 0 ∷ []) (147 ∷ 1 ∷ ki
 
 abbrev pub entry : ℕ → List ℕ → List ℕ
 entry kind body = head kind ++ body
+
+-- a number below 65,536 as two bytes, little-endian
+abbrev pub littleEndian : ℕ → List ℕ
+littleEndian n = n % 256 ∷ n / 256 ∷ []
+
+-- what an entry's head says: the length of the whole entry, then its kind (`Printing: head-says`, for every action)
+abbrev pub HeadSays : ℕ → List ℕ → Type 0
+HeadSays kind body = entry kind body ≡ littleEndian (length (entry kind body)) ++ (littleEndian kind ++ body)
 
 -- example 15: cancelling BO5412345671F adds 11 00 02 00 and its 13 bytes
 pub example-15 : entry 2 (66 ∷ 79 ∷ 53 ∷ 52 ∷ 49 ∷ 50 ∷ 51 ∷ 52 ∷ 53 ∷ 54 ∷ 55 ∷ 49 ∷ 70 ∷ []) ≡ 17 ∷ 0 ∷ 2 ∷ 0 ∷ 66 ∷ 79 ∷ 53 ∷ 52 ∷ 49 ∷ 50 ∷ 51 ∷ 52 ∷ 53 ∷ 54 ∷ 55 ∷ 49 ∷ 70 ∷ []

@@ -4,3 +4,5 @@ pub mod Duties
 pub mod Batch
 pub mod Guards
 pub mod History
+pub mod Demand
+pub mod Examples

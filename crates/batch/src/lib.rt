@@ -5,20 +5,63 @@ ghost use Prim.Native.Nat.{_+_, _-_, _*_, _≤_, _<_};
 ghost use lib.ListN.{length, getD, drop};
 ghost use Rattle.text.specs.Lists.{overlay};
 ghost use Rattle.text.specs.Bytes.{every};
-ghost use Rattle.layout.specs.Layout.{fieldOf};
-ghost use Rattle.fields.specs.Amounts.{readMoney};
 ghost use Rattle.posting.specs.Bounds.{Small};
-ghost use Rattle.posting.specs.File.{lineOf, amountIn, totalsOver};
+ghost use Rattle.posting.specs.File.{lineOf, totalsOver};
 ghost use Rattle.batch.specs.Actions.{seek, liveAnswer, addAnswer, amendAnswer, cancelAnswer, withLine, withCancelled, actionAnswer, actionFile, actionHeld, oneLiveMore, oneCancelled, amountsReplaced};
 ghost use Rattle.batch.specs.Journal.{bodyLength, head, entry, headStands, kindAt, zeros};
 ghost use Rattle.batch.specs.Duties.{Acceptable, Stepping, Stepped, Replayed};
 ghost use Rattle.batch.specs.Guards.{Verified, Guarded, Countable, countsAfter, Passed, Worked};
 ghost use Rattle.batch.specs.Batch.{isZero, sameTotals, rightLengths, countsOf, noCounts, batchOf, Open, Add, Amend, Cancel, Undo, Called};
 use fields::Hellers;
-use fields::MoneyReading;
-use fields::Sum;
+use posting::TWICE;
 use posting::Totals;
+use text::ACCEPTED;
 use text::Answer;
+use text::WRONG_LENGTH;
+
+// ---- refusals
+
+// Add: no place of 401 bytes is left.
+const NO_PLACE: Answer = Answer {
+    code: 230,
+    place: 0,
+};
+
+// Fewer journal bytes are left than the entry needs.
+const NO_ROOM: Answer = Answer {
+    code: 231,
+    place: 0,
+};
+
+// Amend, cancel: the identifier is not present.
+const NOT_PRESENT: Answer = Answer {
+    code: 232,
+    place: 0,
+};
+
+// Amend, cancel: that consignment is cancelled.
+const CANCELLED: Answer = Answer {
+    code: 233,
+    place: 0,
+};
+
+// Undo: no entry stands in the journal.
+const NOTHING_STANDS: Answer = Answer {
+    code: 234,
+    place: 0,
+};
+
+// A buffer has a length that none may have.
+const WRONG_BUFFERS: Answer = Answer {
+    code: 235,
+    place: 0,
+};
+
+// File, journal and counts are not what the journal's entries make.
+const NOT_SOUND: Answer = Answer {
+    code: 237,
+    place: 0,
+};
 
 // The four totals, the records held and the journal bytes used.
 pub struct Counts {
@@ -80,19 +123,13 @@ fn live_answer(file: &[u8], held: usize, id: &[u8]) -> Answer
 {
     let found = seek(file, id, held);
     if found == 0 {
-        return Answer {
-            code: 232,
-            place: 0,
-        };
+        return NOT_PRESENT;
     }
     let k = found - 1;
     if file[k * 401 + 340] == b'0' {
-        return Answer {
-            code: 233,
-            place: 0,
-        };
+        return CANCELLED;
     }
-    Answer { code: 0, place: 0 }
+    ACCEPTED
 }
 
 // ---- what an action meets; 231 is not judged here
@@ -107,15 +144,12 @@ fn add_answer(file: &[u8], held: usize, rec: &[u8]) -> Answer
     }
     let found = seek(file, layout::field(rec, 1), held);
     if found != 0 {
-        return Answer { code: 2, place: 1 };
+        return TWICE;
     }
     if held * 401 + 401 <= file.len() {
-        Answer { code: 0, place: 0 }
+        ACCEPTED
     } else {
-        Answer {
-            code: 230,
-            place: 0,
-        }
+        NO_PLACE
     }
 }
 
@@ -353,7 +387,7 @@ fn totals_over(file: &[u8], n: usize) -> Totals
     while i < n {
         let a = i * 401;
         let e = a + 399;
-        t = posting::count_record(t, &file[a..e]);
+        t = t.plus(posting::brought(&file[a..e])).total_or(t);
         i += 1;
     }
     t
@@ -433,25 +467,19 @@ fn guard(file: &[u8], journal: &[u8], c: Counts) -> Gate
 {
     if !right_lengths(file.len(), journal.len()) {
         return Gate {
-            answer: Answer {
-                code: 235,
-                place: 0,
-            },
+            answer: WRONG_BUFFERS,
             last: 0,
         };
     }
     let verdict = verify(file, journal, c);
     if !verdict.sound {
         return Gate {
-            answer: Answer {
-                code: 237,
-                place: 0,
-            },
+            answer: NOT_SOUND,
             last: 0,
         };
     }
     Gate {
-        answer: Answer { code: 0, place: 0 },
+        answer: ACCEPTED,
         last: verdict.last,
     }
 }
@@ -505,27 +533,6 @@ fn put_entry(journal: &mut [u8], at: usize, kind: u8, body: &[u8])
 
 // ---- amounts and counts
 
-// The amount in field 16 or 17 of a record; 0 where there is none.
-fn amount(rec: &[u8], field: usize) -> Hellers
-    ensures { λ r. ⌜ (r .0 ≡ amountIn (readMoney (fieldOf (now (rec .entry)) field))) × (r .0 < 100000000000) ⌝ }
-{
-    match fields::read_money(layout::field(rec, field)) {
-        MoneyReading::Absent => Hellers(0),
-        MoneyReading::Value(h) => h,
-        MoneyReading::Malformed => Hellers(0),
-    }
-}
-
-fn more(a: Hellers, b: Hellers) -> Hellers
-    requires { ⌜ a .0 + b .0 < 1000000000000000 ⌝ }
-    ensures { λ r. ⌜ r .0 ≡ a .0 + b .0 ⌝ }
-{
-    match a.plus(b) {
-        Sum::Total(c) => c,
-        Sum::TooLarge => a,
-    }
-}
-
 fn less(a: Hellers, b: Hellers) -> Hellers
     ensures { λ r. ⌜ r .0 ≡ a .0 - b .0 ⌝ }
 {
@@ -559,16 +566,14 @@ impl Counts {
         ensures { λ r. ⌜ r ≡ countsOf (oneLiveMore (self .totals) (cash .0) (price .0)) (self .held + 1) (self .used) ⌝ }
     {
         let t = self.totals;
-        let d = t.cash;
-        let p = t.price;
-        let totals = Totals {
-            live: t.live + 1,
-            cancelled: t.cancelled,
-            cash: more(d, cash),
-            price: more(p, price),
+        let one = Totals {
+            live: 1,
+            cancelled: 0,
+            cash,
+            price,
         };
         Counts {
-            totals,
+            totals: t.plus(one).total_or(t),
             held: self.held + 1,
             used: self.used,
         }
@@ -609,14 +614,20 @@ impl Counts {
         let t = self.totals;
         let d = t.cash;
         let p = t.price;
-        let totals = Totals {
+        let rest = Totals {
             live: t.live,
             cancelled: t.cancelled,
-            cash: more(less(d, old_cash), cash),
-            price: more(less(p, old_price), price),
+            cash: less(d, old_cash),
+            price: less(p, old_price),
+        };
+        let new = Totals {
+            live: 0,
+            cancelled: 0,
+            cash,
+            price,
         };
         Counts {
-            totals,
+            totals: rest.plus(new).total_or(rest),
             held: self.held,
             used: self.used,
         }
@@ -649,23 +660,28 @@ fn counts_after(file: &[u8], c: Counts, kind: u8, body: &[u8]) -> Counts
 {
     let held = c.held;
     if kind == 1 {
-        let more = c.one_live_more(amount(body, 16), amount(body, 17));
+        let more = c.one_live_more(posting::amount(body, 16), posting::amount(body, 17));
         return more.journal_grown(403);
     }
     if kind == 3 {
         let k = seek(file, layout::field(body, 1), held) - 1;
         let a = k * 401;
         let e = a + 399;
-        let old_cash = amount(&file[a..e], 16);
-        let old_price = amount(&file[a..e], 17);
-        let amended = c.amounts_replaced(old_cash, old_price, amount(body, 16), amount(body, 17));
+        let old_cash = posting::amount(&file[a..e], 16);
+        let old_price = posting::amount(&file[a..e], 17);
+        let amended = c.amounts_replaced(
+            old_cash,
+            old_price,
+            posting::amount(body, 16),
+            posting::amount(body, 17),
+        );
         return amended.journal_grown(403);
     }
     let k = seek(file, body, held) - 1;
     let a = k * 401;
     let e = a + 399;
-    let cash = amount(&file[a..e], 16);
-    let price = amount(&file[a..e], 17);
+    let cash = posting::amount(&file[a..e], 16);
+    let price = posting::amount(&file[a..e], 17);
     let fewer = c.one_cancelled(cash, price);
     fewer.journal_grown(body_length(kind) + 4)
 }
@@ -682,10 +698,7 @@ fn enter(file: &mut [u8], journal: &mut [u8], c: Counts, kind: u8, body: &[u8]) 
     let size = body_length(kind);
     if body.len() != size {
         return Outcome {
-            answer: Answer {
-                code: 236,
-                place: 0,
-            },
+            answer: WRONG_LENGTH,
             counts: c,
         };
     }
@@ -695,10 +708,7 @@ fn enter(file: &mut [u8], journal: &mut [u8], c: Counts, kind: u8, body: &[u8]) 
     }
     if journal.len() - used < size + 4 {
         return Outcome {
-            answer: Answer {
-                code: 231,
-                place: 0,
-            },
+            answer: NO_ROOM,
             counts: c,
         };
     }
@@ -706,7 +716,7 @@ fn enter(file: &mut [u8], journal: &mut [u8], c: Counts, kind: u8, body: &[u8]) 
     act(file, held, kind, body);
     put_entry(journal, used, kind, body);
     Outcome {
-        answer: Answer { code: 0, place: 0 },
+        answer: ACCEPTED,
         counts,
     }
 }
@@ -718,17 +728,14 @@ pub fn open(file: &mut [u8], journal: &mut [u8]) -> Outcome
     let counts = Counts::none();
     if !right_lengths(file.len(), journal.len()) {
         return Outcome {
-            answer: Answer {
-                code: 235,
-                place: 0,
-            },
+            answer: WRONG_BUFFERS,
             counts,
         };
     }
     text::fill(file, 0);
     text::fill(journal, 0);
     Outcome {
-        answer: Answer { code: 0, place: 0 },
+        answer: ACCEPTED,
         counts,
     }
 }
@@ -786,10 +793,7 @@ pub fn undo(file: &mut [u8], journal: &mut [u8], c: Counts) -> Outcome
     let used = c.used;
     if used == 0 {
         return Outcome {
-            answer: Answer {
-                code: 234,
-                place: 0,
-            },
+            answer: NOTHING_STANDS,
             counts: c,
         };
     }
@@ -799,7 +803,7 @@ pub fn undo(file: &mut [u8], journal: &mut [u8], c: Counts) -> Outcome
     let totals = totals_over(file, held);
     clear_entry(journal, last, used);
     Outcome {
-        answer: Answer { code: 0, place: 0 },
+        answer: ACCEPTED,
         counts: Counts {
             totals,
             held,

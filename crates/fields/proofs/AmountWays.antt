@@ -18,26 +18,25 @@ use Rattle.text.specs.Numbers.{numberAfter, numberOf, numberOfFirst, digits, pl
 use Rattle.text.proofs.Lists.{spelled, put-is}
 use Rattle.text.proofs.Runs.{run-passes}
 use Rattle.text.proofs.Decimals.{places-at-most}
-use Rattle.text.proofs.Numbers.{ten-grows, number-below, length-digits, digit-bounds}
-use Rattle.fields.specs.declared.Grams.{Grams}
-use Rattle.fields.specs.declared.Hellers.{Hellers}
-use Rattle.fields.specs.declared.Sum.the-variants.{Total, TooLarge}
-use Rattle.fields.specs.declared.WeightReading.{WeightReading}
-use Rattle.fields.specs.declared.WeightReading.the-variants as Weight
-use Rattle.fields.specs.declared.MoneyReading.{MoneyReading}
-use Rattle.fields.specs.declared.MoneyReading.the-variants as Money
-use Rattle.fields.specs.Amounts.{isWeight, gramsIn, grams, readWeight, weightText, crownDigits, isMoney, hellersIn, hellers, readMoney, moneyText}
-use Rattle.fields.specs.Calls.{hasMoneyText, moneyBytes, hasWeightText, weightBytes, Written, MoneyWritten, WeightWritten, sumOf}
+use Rattle.text.proofs.Numbers.{few, ten-grows, number-below, length-digits, digit-bounds}
+use Rattle.fields.specs.declared.amounts.Grams.{Grams}
+use Rattle.fields.specs.declared.amounts.Hellers.{Hellers}
+use Rattle.fields.specs.declared.amounts.Sum.the-variants.{Total, TooLarge}
+use Rattle.fields.specs.declared.amounts.WeightReading.{WeightReading}
+use Rattle.fields.specs.declared.amounts.WeightReading.the-variants as Weight
+use Rattle.fields.specs.declared.amounts.MoneyReading.{MoneyReading}
+use Rattle.fields.specs.declared.amounts.MoneyReading.the-variants as Money
+use Rattle.fields.specs.Amounts.{isWeight, gramsIn, grams, readWeight, weightText, crownDigits, isMoney, hellersIn, hellers, readMoney, absentOrZeroMoney, moneyText}
+use Rattle.fields.specs.Calls.{hasMoneyText, moneyBytes, hasWeightText, weightBytes, Written, MoneyWritten, WeightWritten, sumOfHellers}
 use Rattle.fields.proofs.Frames.{frame-good, frame-bad}
-use Rattle.fields.proofs.Ways.{few}
 
 -- ---- the sum of two amounts
-pub sum-fits : (a b : Hellers) → b .0 < 2 ^ 64 → a .0 ≤ 18446744073709551615 - b .0 → Total (record { 0 = a .0 + b .0 }) ≡ sumOf a b
-unfolding sumOf
+pub sum-fits : (a b : Hellers) → b .0 < 2 ^ 64 → a .0 ≤ 18446744073709551615 - b .0 → Total (record { 0 = a .0 + b .0 }) ≡ sumOfHellers a b
+unfolding sumOfHellers
 sum-fits a b l h = rw (lt-ltb (a .0 + b .0) (2 ^ 64) (omega arith))
 
-pub sum-large : (a b : Hellers) → 18446744073709551615 - b .0 < a .0 → TooLarge ≡ sumOf a b
-unfolding sumOf
+pub sum-large : (a b : Hellers) → 18446744073709551615 - b .0 < a .0 → TooLarge ≡ sumOfHellers a b
+unfolding sumOfHellers
 sum-large a b h = rw (le-ltb (a .0 + b .0) (2 ^ 64) (omega arith))
 
 -- ---- weight
@@ -266,3 +265,7 @@ module _ (s : List ℕ) (m : WeightReading) (long : length s ≡ 6) where
   pub weight-malformed : m ≡ Weight.Malformed → WeightWritten s m (answer 210 0) s
   unfolding hasWeightText weightBytes
   weight-malformed e = rw e (write-none 6 false (replicate 6 32) s long refl)
+
+-- ---- what the rules ask
+pub money-zero : (r : MoneyReading) (h : Hellers) → r ≡ Money.Value h → eqb (h .0) 0 ≡ absentOrZeroMoney r
+money-zero r h e = rw e

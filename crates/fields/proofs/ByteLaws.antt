@@ -20,9 +20,6 @@ pub both-right : (a b : Bool) → (a && b) ≡ true → b ≡ true
 both-right true b h = h
 both-right false b h = cc
 
-pub clash : (b : Bool) → b ≡ true → b ≡ false → ⊥
-clash b e h = let z : _≡_ {A = ℕ} 0 1 = cc in omega arith
-
 -- ---- a class of bytes: lo to 7Eh, or 80h to FFh
 pub class-exactly : (lo b : ℕ) → b < 256 → ((leb lo b && leb b 126 || leb 128 b) ≡ true) ↔ (((lo ≤ b) × (b ≤ 126)) ⊎ ((128 ≤ b) × (b ≤ 255)))
 class-exactly lo b byte = (λ h. go (leb lo b) (leb b 126) refl refl h, back)
@@ -115,16 +112,6 @@ module _ (test : ℕ → Bool) where
       go : (t : Bool) → run test s ≤ length s → cond t (suc (run test s)) 0 ≤ suc (length s)
       go true h = omega arith
       go false h = omega arith
-
-  -- they pass
-  pub run-passes : (s : List ℕ) → every test (take (run test s) s) ≡ true
-  unfolding run every
-  run-passes [] = refl
-  run-passes (b ∷ s) = go (test b) refl (run-passes s)
-    where
-      go : (t : Bool) → test b ≡ t → every test (take (run test s) s) ≡ true → every test (take (cond t (suc (run test s)) 0) (b ∷ s)) ≡ true
-      go true e h = passing-on test b (take (run test s) s) e h
-      go false e h = passing-none test
 
   -- bytes that pass, before others
   pub run-append : (xs ys : List ℕ) → every test xs ≡ true → run test (xs ++ ys) ≡ length xs + run test ys

@@ -15,8 +15,9 @@ use Rattle.text.specs.Numbers.{digits}
 use Rattle.text.proofs.Lists.{spelled}
 use Rattle.text.proofs.Numbers.{every-append, length-digits, digits-all, number-digits, digits-number}
 use Rattle.fields.specs.Dates.{isLeap, daysIn, realDate, yearOf, monthOf, dayOf, readDate, hoursOf, minutesOf, secondsOf, isTime, readTime}
-use Rattle.fields.specs.declared.DateReading.the-variants as Date
-use Rattle.fields.specs.declared.TimeReading.the-variants as Time
+use Rattle.fields.specs.declared.dates.DateReading.the-variants as Date
+use Rattle.fields.specs.declared.dates.TimeReading.the-variants as Time
+use Rattle.fields.proofs.Ways.{days-few}
 use Rattle.fields.proofs.ByteLaws.{both-left, both-right, every-take, every-drop}
 use Rattle.fields.proofs.FrameLaws.{chosen-exactly}
 
@@ -56,16 +57,6 @@ no-date v e = let z : _≡_ {A = ℕ} 0 1 = cc in omega arith
 
 same-date : (a b : ℕ) → Date.Value a ≡ Date.Value b → a ≡ b
 same-date a b e = cc
-
-days-few : (y m : ℕ) → daysIn y m ≤ 31
-unfolding daysIn
-days-few y m = go (eqb m 2) (isLeap y) (eqb m 4 || eqb m 6 || eqb m 9 || eqb m 11)
-  where
-    go : (a b c : Bool) → cond a (cond b 29 28) (cond c 30 31) ≤ 31
-    go true true c = omega arith
-    go true false c = omega arith
-    go false b true = omega arith
-    go false b false = omega arith
 
 -- three lists of 4, 2 and 2 in a row
 record Row (f a b c : List ℕ) : Type 0 where

@@ -10,7 +10,8 @@ use lib.Dec.{eqb}
 use lib.ListN.{length, replicate}
 use Rattle.text.specs.Bytes.{isBlank}
 use Rattle.fields.specs.Frame.{framed}
-use Rattle.fields.proofs.ByteLaws.{clash, blank-exactly}
+use Rattle.text.proofs.Booleans.{clash}
+use Rattle.fields.proofs.ByteLaws.{blank-exactly}
 
 -- ---- a field that may be blank
 -- the part f has the width w, isn't blank and is good
@@ -69,5 +70,5 @@ module _ {A : Type 0} (absent malformed : A) (w : ℕ) (f : List ℕ) (good : Bo
 pub chosen-exactly : {A : Type 0} (malformed value v : A) (a b : Bool) → (malformed ≡ v → ⊥)
     → (cond a (cond b value malformed) malformed ≡ v) ↔ ((a ≡ true) × (b ≡ true) × (value ≡ v))
 chosen-exactly malformed value v true true other = (λ h. (refl, refl, h), λ p. p .2)
-chosen-exactly malformed value v true false other = (λ h. absurd (other h), λ p. absurd (clash false (p .1) refl))
-chosen-exactly malformed value v false b other = (λ h. absurd (other h), λ p. absurd (clash false (p .0) refl))
+chosen-exactly malformed value v true false other = (λ h. absurd (other h), λ p. absurd (clash (p .1) refl))
+chosen-exactly malformed value v false b other = (λ h. absurd (other h), λ p. absurd (clash (p .0) refl))

@@ -14,8 +14,10 @@ use lib.Seq.{split-at, getD-take, getD-drop, drop-at, getD-at, length-take-le, d
 use Rattle.text.specs.Bytes.{every, run}
 use Rattle.text.specs.Lists.{part}
 use Rattle.fields.specs.Texts.{isPlain, contains, atIn, behindAt, isHost, isMail, mailEnd, readMail}
-use Rattle.fields.specs.declared.TextReading.the-variants.{Absent, Value, Malformed}
-use Rattle.fields.proofs.ByteLaws.{class-exactly, both-left, both-right, clash, blank-exactly, not-blank, run-within, run-passes, run-append}
+use Rattle.fields.specs.declared.texts.TextReading.the-variants.{Absent, Value, Malformed}
+use Rattle.text.proofs.Booleans.{clash}
+use Rattle.text.proofs.Runs.{run-passes}
+use Rattle.fields.proofs.ByteLaws.{class-exactly, both-left, both-right, blank-exactly, not-blank, run-within, run-append}
 use Rattle.fields.proofs.FrameLaws.{GoodPart, value-exactly, absent-spaces}
 use Rattle.fields.proofs.TextLaws.{not-absent, not-malformed, differs, same-length}
 
@@ -36,7 +38,7 @@ pub record Place (x : ℕ) (s : List ℕ) : Type 0 where
 
 contains-place : (x : ℕ) (s : List ℕ) → contains x s ≡ true → Place x s
 unfolding contains
-contains-place x [] h = absurd (clash false h refl)
+contains-place x [] h = absurd (clash h refl)
 contains-place x (b ∷ s) h = go (eqb b x) refl h (contains-place x s)
   where
     go : (t : Bool) → eqb b x ≡ t → (t || contains x s) ≡ true → (contains x s ≡ true → Place x s) → Place x (b ∷ s)

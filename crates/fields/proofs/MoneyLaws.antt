@@ -19,8 +19,8 @@ use Rattle.text.specs.Numbers.{numberOf, digits, places, decimal}
 use Rattle.text.proofs.Numbers.{ten, ten-grows, every-append, length-digits, digits-all, number-digits, number-below, digits-number}
 use Rattle.text.proofs.Decimals.{places-one, places-at-most, sized-decimal, decimal-read, decimal-written, decimal-first, digits-last}
 use Rattle.text.proofs.Runs.{run-is, run-passes}
-use Rattle.fields.specs.declared.MoneyReading.{MoneyReading}
-use Rattle.fields.specs.declared.MoneyReading.the-variants as Money
+use Rattle.fields.specs.declared.amounts.MoneyReading.{MoneyReading}
+use Rattle.fields.specs.declared.amounts.MoneyReading.the-variants as Money
 use Rattle.fields.specs.Frame.{framed}
 use Rattle.fields.specs.Amounts.{crownDigits, isMoney, hellersIn, hellers, readMoney, moneyText}
 use Rattle.fields.specs.Calls.{hasMoneyText, moneyBytes}

@@ -15,7 +15,7 @@ use Rattle.text.specs.Numbers.{numberOf, digits}
 use Rattle.text.proofs.Lists.{spelled}
 use Rattle.text.proofs.Numbers.{ten-is, length-digits, digits-all, number-digits, number-below, digits-number}
 use Rattle.fields.specs.Numbers.{readDigits, readPostcode, isTelephone, readTelephone, readSymbol, readCount}
-use Rattle.fields.specs.declared.NumberReading.the-variants.{Absent, Value, Malformed}
+use Rattle.fields.specs.declared.numbers.NumberReading.the-variants.{Absent, Value, Malformed}
 use Rattle.fields.proofs.ByteLaws.{both-left, both-right, blank-exactly, not-blank, digits-not-blank}
 use Rattle.fields.proofs.FrameLaws.{GoodPart, value-exactly, absent-spaces}
 

@@ -16,10 +16,10 @@ use Rattle.ident.specs.Identifier.{rightId, shapeOf, postingDigits}
 use Rattle.ident.specs.Calls.{partsOf}
 use Rattle.ident.proofs.Facts.{right-facts}
 use Rattle.fields.specs.Others.{isCountry, readCountry, readEmpty, readStatus, readMain}
-use Rattle.fields.specs.declared.CountryReading.the-variants as Country
-use Rattle.fields.specs.declared.EmptyReading.the-variants as Empty
-use Rattle.fields.specs.declared.StatusReading.the-variants as Status
-use Rattle.fields.specs.declared.MainReading.the-variants as Main
+use Rattle.fields.specs.declared.others.CountryReading.the-variants as Country
+use Rattle.fields.specs.declared.others.EmptyReading.the-variants as Empty
+use Rattle.fields.specs.declared.others.StatusReading.the-variants as Status
+use Rattle.fields.specs.declared.others.MainReading.the-variants as Main
 use Rattle.fields.proofs.ByteLaws.{both-left, both-right, not-blank}
 use Rattle.fields.proofs.FrameLaws.{GoodPart, value-exactly, absent-spaces}
 

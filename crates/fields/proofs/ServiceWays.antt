@@ -11,11 +11,11 @@ use lib.ListN.{length, getD, take, drop, length-drop}
 use lib.Seq.{take-all}
 use Rattle.text.specs.Bytes.{isDigit, every, isBlank}
 use Rattle.text.proofs.Lists.{step, ended}
-use Rattle.fields.specs.declared.Scan.{Scan}
-use Rattle.fields.specs.declared.Services.{Services}
-use Rattle.fields.specs.declared.ServicesReading.{ServicesReading}
-use Rattle.fields.specs.declared.ServicesReading.the-variants.{Absent, Value, Malformed}
-use Rattle.fields.specs.Services.{withDigit, codesFrom, codesOf, isCode, bit, hasCode, noServices, withCode, added, readServices}
+use Rattle.fields.specs.declared.services.Scan.{Scan}
+use Rattle.fields.specs.declared.services.Services.{Services}
+use Rattle.fields.specs.declared.services.ServicesReading.{ServicesReading}
+use Rattle.fields.specs.declared.services.ServicesReading.the-variants.{Absent, Value, Malformed}
+use Rattle.fields.specs.Services.{withDigit, codesFrom, codesOf, isCode, bit, hasCode, noServices, withCode, added, readServices, servicesIn}
 use Rattle.fields.specs.Scans.{scanOf, addedOne, joinedBy, behindPlus, behindByte, finished}
 use Rattle.fields.proofs.Bits.{with-fits, bit-past}
 
@@ -207,3 +207,10 @@ services-blank f b long e t = rw (eq-eqb (length f) 30 long, ← e, t)
 pub services-read : (f : List ℕ) (b : Bool) (r : ServicesReading) → length f ≡ 30 → b ≡ isBlank f → b ≡ false → r ≡ added noServices (codesOf f) → r ≡ readServices f
 unfolding readServices
 services-read f b r long e t g = rw (eq-eqb (length f) 30 long, ← e, t) g
+
+-- ---- what the rules ask
+pub services-none : (r : ServicesReading) → r ≡ Absent → noServices ≡ servicesIn r
+services-none r e = rw e
+
+pub services-bad : (r : ServicesReading) → r ≡ Malformed → noServices ≡ servicesIn r
+services-bad r e = rw e

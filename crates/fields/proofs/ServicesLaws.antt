@@ -14,41 +14,13 @@ use Rattle.text.specs.Bytes.{isDigit, every, isBlank}
 use Rattle.text.specs.Numbers.{digits, decimal}
 use Rattle.text.proofs.Numbers.{digit-bounds, is-digit}
 use Rattle.text.proofs.Decimals.{places-one, places-are}
-use Rattle.fields.specs.declared.Services.{Services}
-use Rattle.fields.specs.declared.ServicesReading.the-variants.{Absent, Value, Malformed}
+use Rattle.fields.specs.declared.services.Services.{Services}
+use Rattle.fields.specs.declared.services.ServicesReading.the-variants.{Absent, Value, Malformed}
 use Rattle.fields.specs.Texts.{contains}
 use Rattle.fields.specs.Services.{withDigit, codesFrom, codesOf, isCode, bit, hasCode, noServices, withCode, added, readServices}
+use Rattle.fields.specs.ServiceTexts.{written, allDifferent, withCodes, servicesOf, Writes}
 use Rattle.fields.proofs.Bits.{bit-with, bit-none}
 use Rattle.fields.proofs.ByteLaws.{spaces-blank, blank-exactly}
-
--- ---- what the statements name
--- codes in decimal, joined by "+"
-unfoldable pub written : List ℕ → List ℕ
-written [] = []
-written (c ∷ []) = decimal c
-written (c ∷ d ∷ cs) = decimal c ++ 43 ∷ written (d ∷ cs)
-
--- no code twice
-unfoldable pub allDifferent : List ℕ → Bool
-allDifferent [] = true
-allDifferent (c ∷ cs) = not (contains c cs) && allDifferent cs
-
--- codes added to a set, the latest last
-unfoldable pub setFrom : Services → List ℕ → Services
-setFrom s [] = s
-setFrom s (c ∷ cs) = setFrom (withCode s c) cs
-
-abbrev pub setOf : List ℕ → Services
-setOf cs = setFrom noServices cs
-
--- field f is the writing of the codes cs, one or more from 1 to 99, all different, with spaces behind; and s is the set of them
-pub record Writes (f : List ℕ) (s : Services) (cs : List ℕ) : Type 0 where
-  pub some : 1 ≤ length cs
-  pub codes : every isCode cs ≡ true
-  pub different : allDifferent cs ≡ true
-  pub long : length f ≡ 30
-  pub text : f ≡ written cs ++ replicate (30 - length (written cs)) 32
-  pub set : s ≡ setOf cs
 
 -- ---- which codes a set has
 pub has-none : (k : ℕ) → hasCode noServices k ≡ false
@@ -105,8 +77,8 @@ eqb-swap a b = go (eqb b a) refl
     go true e = eq-eqb a b (sym (eqb-true b a e))
     go false e = ne-eqb a b (λ q. eqb-false b a e (sym q))
 
-has-from : (s : Services) (cs : List ℕ) (k : ℕ) → allDifferent cs ≡ true → apart s cs ≡ true → hasCode (setFrom s cs) k ≡ (contains k cs || hasCode s k)
-unfolding setFrom allDifferent contains every
+has-from : (s : Services) (cs : List ℕ) (k : ℕ) → allDifferent cs ≡ true → apart s cs ≡ true → hasCode (withCodes s cs) k ≡ (contains k cs || hasCode s k)
+unfolding withCodes allDifferent contains every
 has-from s [] k d a = refl
 has-from s (c ∷ cs) k d a =
     let p = and-eq-true-iff (not (contains c cs)) (allDifferent cs) .0 d in
@@ -120,15 +92,15 @@ has-from s (c ∷ cs) k d a =
     go false e h = ap (λ (t : Bool). t || h) (sym (or-false e))
 
 -- the set of codes that are all different has just these
-pub has-exactly : (cs : List ℕ) (k : ℕ) → allDifferent cs ≡ true → hasCode (setOf cs) k ≡ contains k cs
+pub has-exactly : (cs : List ℕ) (k : ℕ) → allDifferent cs ≡ true → hasCode (servicesOf cs) k ≡ contains k cs
 has-exactly cs k d = has-from noServices cs k d (apart-none cs) ∙ rw (has-none k) (or-false (contains k cs))
 
 -- ---- codes are added exactly if each is a code, they are all different, and none is there already
 abbrev addable : Services → List ℕ → Bool
 addable s cs = every isCode cs && (allDifferent cs && apart s cs)
 
-added-is : (s : Services) (cs : List ℕ) → added s cs ≡ cond (addable s cs) (Value (setFrom s cs)) Malformed
-unfolding added every allDifferent setFrom
+added-is : (s : Services) (cs : List ℕ) → added s cs ≡ cond (addable s cs) (Value (withCodes s cs)) Malformed
+unfolding added every allDifferent withCodes
 added-is s [] = refl
 added-is s (c ∷ cs) = go (isCode c) (hasCode s c) refl (λ new. added-is (withCode s c) cs ∙ rw (apart-with s c cs new))
   where
@@ -140,9 +112,9 @@ added-is s (c ∷ cs) = go (isCode c) (hasCode s c) refl (λ new. added-is (with
     never e n = rw (and-false n) (and-false e)
 
     go : (i h : Bool) → hasCode s c ≡ h
-        → (hasCode s c ≡ false → added (withCode s c) cs ≡ cond (every isCode cs && (allDifferent cs && (not (contains c cs) && apart s cs))) (Value (setFrom (withCode s c) cs)) Malformed)
+        → (hasCode s c ≡ false → added (withCode s c) cs ≡ cond (every isCode cs && (allDifferent cs && (not (contains c cs) && apart s cs))) (Value (withCodes (withCode s c) cs)) Malformed)
         → cond (i && not h) (added (withCode s c) cs) Malformed
-        ≡ cond (i && every isCode cs && (not (contains c cs) && allDifferent cs && (not h && apart s cs))) (Value (setFrom (withCode s c) cs)) Malformed
+        ≡ cond (i && every isCode cs && (not (contains c cs) && allDifferent cs && (not h && apart s cs))) (Value (withCodes (withCode s c) cs)) Malformed
     go false h e rest = refl
     go true true e rest = rw (never (every isCode cs) (not (contains c cs) && allDifferent cs))
     go true false e rest = rest e ∙ rw (order (every isCode cs) (allDifferent cs) (not (contains c cs)) (apart s cs))
@@ -312,7 +284,7 @@ unfolding readServices
 read-writes f s r = go (eqb (length f) 30) (isBlank f) (addable noServices (codesOf f)) refl refl (rw (added-is noServices (codesOf f)) at r)
   where
     go : (l b a : Bool) → eqb (length f) 30 ≡ l → addable noServices (codesOf f) ≡ a
-        → cond l (cond b Absent (cond a (Value (setOf (codesOf f))) Malformed)) Malformed ≡ Value s → (cs : List ℕ) × Writes f s cs
+        → cond l (cond b Absent (cond a (Value (servicesOf (codesOf f))) Malformed)) Malformed ≡ Value s → (cs : List ℕ) × Writes f s cs
     go false b a el ea r = let z : _≡_ {A = ℕ} 0 1 = cc in absurd (omega arith)
     go true true a el ea r = let z : _≡_ {A = ℕ} 0 1 = cc in absurd (omega arith)
     go true false false el ea r = let z : _≡_ {A = ℕ} 0 1 = cc in absurd (omega arith)
@@ -330,7 +302,7 @@ read-writes f s r = go (eqb (length f) 30) (isBlank f) (addable noServices (code
             different = q .0;
             long = long;
             text = rw rest at (back .1);
-            set = sym (value-of (setOf (codesOf f)) s r);
+            set = sym (value-of (servicesOf (codesOf f)) s r);
           },
         )
 

@@ -11,8 +11,9 @@ use lib.Dec.{eqb}
 use lib.ListN.{length, getD, drop, replicate, length-drop}
 use Rattle.text.specs.Bytes.{every, isBlank}
 use Rattle.fields.specs.Texts.{isText, filled, readText}
-use Rattle.fields.specs.declared.TextReading.the-variants.{Absent, Value, Malformed}
-use Rattle.fields.proofs.ByteLaws.{class-exactly, both-left, both-right, clash, blank-exactly, not-blank}
+use Rattle.fields.specs.declared.texts.TextReading.the-variants.{Absent, Value, Malformed}
+use Rattle.text.proofs.Booleans.{clash}
+use Rattle.fields.proofs.ByteLaws.{class-exactly, both-left, both-right, blank-exactly, not-blank}
 use Rattle.fields.proofs.FrameLaws.{value-exactly, absent-spaces}
 
 pub not-absent : (n : ℕ) → Absent ≡ Value n → ⊥
@@ -63,11 +64,11 @@ ends-here b s n h = record { some = omega arith; within = omega arith; last = n;
 
 first-filled : (b : ℕ) (s : List ℕ) → isBlank s ≡ true → isBlank (b ∷ s) ≡ false → b ≡ 32 → ⊥
 unfolding every
-first-filled b s h n e = clash (isBlank s) h (rw (eq-eqb b 32 e) at n)
+first-filled b s h n e = clash h (rw (eq-eqb b 32 e) at n)
 
 filled-ends : (s : List ℕ) → isBlank s ≡ false → Ends s (filled s)
 unfolding every
-filled-ends [] h = absurd (clash true refl h)
+filled-ends [] h = absurd (clash refl h)
 filled-ends (b ∷ s) h = rw (filled-on b s h) (go (isBlank s) refl (filled-ends s))
   where
     go : (t : Bool) → isBlank s ≡ t → (isBlank s ≡ false → Ends s (filled s)) → Ends (b ∷ s) (suc (filled s))

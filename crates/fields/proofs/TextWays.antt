@@ -6,14 +6,15 @@ use mathlib.Core.Bool.{Bool, true, false, cond, not, _&&_, and-eq-true-iff, and-
 use mathlib.Core.List.{List, [], _∷_}
 use native.Mathlib.Omega.{arith}
 use native.Mathlib.Nat.{sub-zero}
-use borrow.Author.Tests.{eq-eqb, ne-eqb, lt-ltb, le-leb, lt-leb, eqb-true, eqb-false, leb-true, leb-false}
+use borrow.Author.Tests.{eq-eqb, ne-eqb, lt-ltb, le-leb, lt-leb, eqb-true, eqb-false, leb-true, leb-false, not-false}
 use lib.Dec.{eqb, leb, ltb}
 use lib.ListN.{length, getD, take, drop, length-drop, List·getD-eq-default}
-use lib.Seq.{take-all, drop-length}
-use Rattle.text.specs.Bytes.{every, isBlank, run}
+use lib.Seq.{take-all, drop-length, drop-drop}
+use Rattle.text.specs.Bytes.{every, isSpace, isBlank, run}
 use Rattle.text.specs.Lists.{part}
 use Rattle.text.proofs.Lists.{step, ended}
-use Rattle.fields.specs.declared.TextReading.the-variants.{Absent, Value, Malformed}
+use Rattle.text.proofs.Words.{every-split}
+use Rattle.fields.specs.declared.texts.TextReading.the-variants.{Absent, Value, Malformed}
 use Rattle.fields.specs.Texts.{isText, filled, readText, isPlain, contains, behindAt, isHost, isMail, mailEnd, readMail}
 use Rattle.fields.proofs.Frames.{frame-good, frame-bad}
 use Rattle.fields.proofs.TextLaws.{filled-blank, filled-exactly}
@@ -42,6 +43,15 @@ module _ (f : List ℕ) (n : ℕ) (h : 0 < n) (l : n ≤ length f) (known : isBl
   filled-down e =
       let back : n - 1 + 1 ≡ n = omega arith in
       rw (step f (n - 1) (omega arith), eq-eqb (getD f (n - 1) 0) 32 e, back) known
+
+pub blank-eight : (f : List ℕ) (n : ℕ) (b : Bool) → 8 ≤ n → b ≡ isBlank (take (n - (n - 8)) (drop (n - 8) f)) → not b ≡ false → isBlank (drop n f) ≡ true
+    → isBlank (drop (n - 8) f) ≡ true
+blank-eight f n b h e t known =
+    let eight : n - (n - 8) ≡ 8 = omega arith in
+    let back : n - 8 + 8 ≡ n = omega arith in
+    let word : isBlank (take 8 (drop (n - 8) f)) ≡ true = rw eight at (sym e ∙ not-false b t) in
+    let rest : isBlank (drop 8 (drop (n - 8) f)) ≡ true = rw (drop-drop 8 (n - 8) f, back) known in
+    every-split isSpace 8 (drop (n - 8) f) ∙ rw (word, rest)
 
 pub filled-start : (f : List ℕ) → isBlank (drop (length f) f) ≡ true
 unfolding every

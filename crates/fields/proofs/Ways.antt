@@ -11,24 +11,20 @@ use lib.ListN.{length, getD, length-take}
 use Rattle.text.specs.Bytes.{isCapital, allDigits, isBlank}
 use Rattle.text.specs.Lists.{part}
 use Rattle.text.specs.Numbers.{numberOf, numberOfFirst}
-use Rattle.text.proofs.Numbers.{few-digits}
+use Rattle.text.proofs.Numbers.{few-digits, few}
 use Rattle.ident.specs.declared.Parts.{Parts}
 use Rattle.ident.specs.declared.Reading.{Reading}
 use Rattle.ident.specs.declared.Reading.the-variants as Ident
 use Rattle.ident.specs.Identifier.{rightId}
 use Rattle.ident.specs.Calls.{partsOf, notRight, Read}
-use Rattle.fields.specs.declared.DateReading.the-variants as Date
-use Rattle.fields.specs.declared.TimeReading.the-variants as Time
-use Rattle.fields.specs.declared.NumberReading.the-variants as Number
-use Rattle.fields.specs.declared.MainReading.the-variants as Main
+use Rattle.fields.specs.declared.dates.DateReading.the-variants as Date
+use Rattle.fields.specs.declared.dates.TimeReading.the-variants as Time
+use Rattle.fields.specs.declared.numbers.NumberReading.the-variants as Number
+use Rattle.fields.specs.declared.others.MainReading.the-variants as Main
 use Rattle.fields.specs.Dates.{isLeap, daysIn, realDate, yearOf, monthOf, dayOf, readDate, hoursOf, minutesOf, secondsOf, hasTimeForm, isTime, readTime}
 use Rattle.fields.specs.Numbers.{readDigits, isTelephone, readTelephone, readCount}
 use Rattle.fields.specs.Others.{isCountry, readMain}
 use Rattle.fields.proofs.Frames.{frame-good, frame-bad}
-
--- a part of few bytes is read whole
-pub few : (s : List ℕ) (a e : ℕ) → e - a ≤ 16 → numberOfFirst 16 (part s a e) ≡ numberOf (part s a e)
-few s a e h = few-digits 16 (part s a e) (simp length-take (omega arith))
 
 -- ---- numbers
 pub digits-value : (f : List ℕ) (b d : Bool) (n : ℕ) → length f ≤ 16 → b ≡ isBlank f → b ≡ false → d ≡ allDigits f → d ≡ true
@@ -139,7 +135,7 @@ module _ (f : List ℕ) (y m d : ℕ) (a r : Bool) (long : length f ≡ 8) (ey :
   unfolding readDate
   date-bad h = rw (eq-eqb (length f) 8 long, tests false h)
 
-days-few : (y m : ℕ) → daysIn y m ≤ 31
+pub days-few : (y m : ℕ) → daysIn y m ≤ 31
 unfolding daysIn
 days-few y m = go (eqb m 2) (isLeap y) (eqb m 4 || eqb m 6 || eqb m 9 || eqb m 11)
   where

@@ -13,8 +13,8 @@ use Rattle.text.specs.Bytes.{isDigit, every}
 use Rattle.text.specs.Numbers.{numberAfter, digits}
 use Rattle.text.proofs.Lists.{spelled}
 use Rattle.text.proofs.Numbers.{digit-bounds, is-digit}
-use Rattle.fields.specs.declared.WeightReading.{WeightReading}
-use Rattle.fields.specs.declared.WeightReading.the-variants as Weight
+use Rattle.fields.specs.declared.amounts.WeightReading.{WeightReading}
+use Rattle.fields.specs.declared.amounts.WeightReading.the-variants as Weight
 use Rattle.fields.specs.Frame.{framed}
 use Rattle.fields.specs.Amounts.{isWeight, gramsIn, grams, readWeight, weightText}
 use Rattle.fields.specs.Calls.{hasWeightText, weightBytes}

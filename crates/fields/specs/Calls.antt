@@ -7,14 +7,15 @@ use mathlib.Core.List.{List}
 use lib.ListN.{length, replicate}
 use lib.Dec.{eqb, ltb}
 use Rattle.text.specs.declared.Answer.{Answer}
-use Rattle.text.specs.Answers.{answer, accepted}
-use Rattle.fields.specs.declared.Hellers.{Hellers}
-use Rattle.fields.specs.declared.Sum.{Sum}
-use Rattle.fields.specs.declared.Sum.the-variants.{Total, TooLarge}
-use Rattle.fields.specs.declared.WeightReading.{WeightReading}
-use Rattle.fields.specs.declared.WeightReading.the-variants as Weight
-use Rattle.fields.specs.declared.MoneyReading.{MoneyReading}
-use Rattle.fields.specs.declared.MoneyReading.the-variants as Money
+use Rattle.text.specs.Answers.{answer, accepted, wrongLength}
+use Rattle.layout.specs.Layout.{widthOf}
+use Rattle.fields.specs.declared.amounts.Hellers.{Hellers}
+use Rattle.fields.specs.declared.amounts.Sum.{Sum}
+use Rattle.fields.specs.declared.amounts.Sum.the-variants.{Total, TooLarge}
+use Rattle.fields.specs.declared.amounts.WeightReading.{WeightReading}
+use Rattle.fields.specs.declared.amounts.WeightReading.the-variants as Weight
+use Rattle.fields.specs.declared.amounts.MoneyReading.{MoneyReading}
+use Rattle.fields.specs.declared.amounts.MoneyReading.the-variants as Money
 use Rattle.fields.specs.Amounts.{weightText, moneyText}
 
 -- ---- the writing of a reading: a number that has one, or blanks
@@ -31,9 +32,9 @@ hasMoneyText (Money.Value h) = moneyFits (h .0)
 hasMoneyText Money.Malformed = false
 
 unfoldable pub moneyBytes : MoneyReading → List ℕ
-moneyBytes Money.Absent = replicate 12 32
+moneyBytes Money.Absent = replicate (widthOf 16) 32
 moneyBytes (Money.Value h) = moneyText (h .0)
-moneyBytes Money.Malformed = replicate 12 32
+moneyBytes Money.Malformed = replicate (widthOf 16) 32
 
 unfoldable pub hasWeightText : WeightReading → Bool
 hasWeightText Weight.Absent = true
@@ -41,21 +42,21 @@ hasWeightText (Weight.Value g) = weightFits (g .0)
 hasWeightText Weight.Malformed = false
 
 unfoldable pub weightBytes : WeightReading → List ℕ
-weightBytes Weight.Absent = replicate 6 32
+weightBytes Weight.Absent = replicate (widthOf 15) 32
 weightBytes (Weight.Value g) = weightText (g .0)
-weightBytes Weight.Malformed = replicate 6 32
+weightBytes Weight.Malformed = replicate (widthOf 15) 32
 
 -- 236 if the part hasn't the field's width, then 210 if the number has no writing there, both place 0 and the part unchanged
 pub record Written (width : ℕ) (has : Bool) (text before : List ℕ) (r : Answer) (after : List ℕ) : Type 0 where
-  pub answers : r ≡ cond (eqb (length before) width) (cond has accepted (answer 210 0)) (answer 236 0)
+  pub answers : r ≡ cond (eqb (length before) width) (cond has accepted (answer 210 0)) wrongLength
   pub bytes : after ≡ cond (eqb (length before) width && has) text before
 
 abbrev pub MoneyWritten : List ℕ → MoneyReading → Answer → List ℕ → Type 0
-MoneyWritten before m r after = Written 12 (hasMoneyText m) (moneyBytes m) before r after
+MoneyWritten before m r after = Written (widthOf 16) (hasMoneyText m) (moneyBytes m) before r after
 
 abbrev pub WeightWritten : List ℕ → WeightReading → Answer → List ℕ → Type 0
-WeightWritten before m r after = Written 6 (hasWeightText m) (weightBytes m) before r after
+WeightWritten before m r after = Written (widthOf 15) (hasWeightText m) (weightBytes m) before r after
 
 -- ---- a sum takes only its own kind
-unfoldable pub sumOf : Hellers → Hellers → Sum
-sumOf a b = cond (ltb (a .0 + b .0) (2 ^ 64)) (Total (record { 0 = a .0 + b .0 })) TooLarge
+unfoldable pub sumOfHellers : Hellers → Hellers → Sum
+sumOfHellers a b = cond (ltb (a .0 + b .0) (2 ^ 64)) (Total (record { 0 = a .0 + b .0 })) TooLarge

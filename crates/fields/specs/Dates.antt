@@ -1,17 +1,18 @@
 -- Fields 2 and 3: a date and a time, which may not be blank.
 -- Assumes nothing.
 use Prim.Native.Nat.{ℕ, _+_, _*_, _%_}
-use mathlib.Core.Bool.{Bool, cond, not, _&&_, _||_}
+use mathlib.Core.Bool.{Bool, true, false, cond, not, _&&_, _||_}
 use mathlib.Core.List.{List}
 use lib.ListN.{length, getD}
 use lib.Dec.{eqb, leb}
 use Rattle.text.specs.Bytes.{allDigits}
 use Rattle.text.specs.Lists.{part}
 use Rattle.text.specs.Numbers.{numberOf}
-use Rattle.fields.specs.declared.DateReading.{DateReading}
-use Rattle.fields.specs.declared.DateReading.the-variants as Date
-use Rattle.fields.specs.declared.TimeReading.{TimeReading}
-use Rattle.fields.specs.declared.TimeReading.the-variants as Time
+use Rattle.layout.specs.Layout.{widthOf}
+use Rattle.fields.specs.declared.dates.DateReading.{DateReading}
+use Rattle.fields.specs.declared.dates.DateReading.the-variants as Date
+use Rattle.fields.specs.declared.dates.TimeReading.{TimeReading}
+use Rattle.fields.specs.declared.dates.TimeReading.the-variants as Time
 
 -- ---- 2: date ccyymmdd, a real Gregorian date in 2000 to 2099
 abbrev pub isLeap : ℕ → Bool
@@ -35,9 +36,13 @@ dayOf f = numberOf (part f 6 8)
 -- the value is the number ccyymmdd
 unfoldable pub readDate : List ℕ → DateReading
 readDate f =
-    cond (eqb (length f) 8)
+    cond (eqb (length f) (widthOf 2))
     (cond (allDigits f && realDate (yearOf f) (monthOf f) (dayOf f)) (Date.Value (yearOf f * 10000 + monthOf f * 100 + dayOf f)) Date.Malformed)
     Date.Malformed
+
+abbrev pub malformedDate : DateReading → Bool
+malformedDate (Date.Value v) = false
+malformedDate Date.Malformed = true
 
 -- ---- 3: time hh:mm:ss, hours to 23, minutes and seconds to 59
 abbrev pub hoursOf : List ℕ → ℕ
@@ -58,6 +63,10 @@ isTime f = hasTimeForm f && leb (hoursOf f) 23 && leb (minutesOf f) 59 && leb (s
 -- the value is in seconds from midnight
 unfoldable pub readTime : List ℕ → TimeReading
 readTime f =
-    cond (eqb (length f) 8)
+    cond (eqb (length f) (widthOf 3))
     (cond (isTime f) (Time.Value (hoursOf f * 3600 + minutesOf f * 60 + secondsOf f)) Time.Malformed)
     Time.Malformed
+
+abbrev pub malformedTime : TimeReading → Bool
+malformedTime (Time.Value v) = false
+malformedTime Time.Malformed = true

@@ -11,19 +11,19 @@ use Rattle.text.specs.Bytes.{every, run}
 use Rattle.text.specs.Numbers.{numberAfter}
 use Rattle.text.specs.Texts.{bytes, allHold}
 use Rattle.ident.specs.Identifier.{shapeOf, weighted, sumOf, remainder, endsRight, rightId}
-use Rattle.fields.specs.declared.DateReading.{DateReading}
-use Rattle.fields.specs.declared.DateReading.the-variants as Date
-use Rattle.fields.specs.declared.WeightReading.{WeightReading}
-use Rattle.fields.specs.declared.WeightReading.the-variants as Weight
-use Rattle.fields.specs.declared.MoneyReading.{MoneyReading}
-use Rattle.fields.specs.declared.MoneyReading.the-variants as Money
-use Rattle.fields.specs.declared.Services.{Services}
-use Rattle.fields.specs.declared.ServicesReading.{ServicesReading}
-use Rattle.fields.specs.declared.ServicesReading.the-variants as Reading
+use Rattle.fields.specs.declared.dates.DateReading.{DateReading}
+use Rattle.fields.specs.declared.dates.DateReading.the-variants as Date
+use Rattle.fields.specs.declared.amounts.WeightReading.{WeightReading}
+use Rattle.fields.specs.declared.amounts.WeightReading.the-variants as Weight
+use Rattle.fields.specs.declared.amounts.MoneyReading.{MoneyReading}
+use Rattle.fields.specs.declared.amounts.MoneyReading.the-variants as Money
+use Rattle.fields.specs.declared.services.Services.{Services}
+use Rattle.fields.specs.declared.services.ServicesReading.{ServicesReading}
+use Rattle.fields.specs.declared.services.ServicesReading.the-variants as Reading
 use Rattle.fields.specs.Frame.{framed}
-use Rattle.fields.specs.Dates.{daysIn, readDate}
-use Rattle.fields.specs.Amounts.{isMoney, readWeight, readMoney}
-use Rattle.fields.specs.Services.{codesFrom, hasCode, noServices, withCode, added, readServices}
+use Rattle.fields.specs.Dates.{daysIn, readDate, malformedDate}
+use Rattle.fields.specs.Amounts.{isMoney, readWeight, malformedWeight, readMoney, malformedMoney}
+use Rattle.fields.specs.Services.{codesFrom, hasCode, noServices, withCode, added, readServices, malformedServices}
 
 -- ---- an identifier, right or wrong, with its weighted sum and the remainder
 unfoldable pub adds : List ℕ → ℕ → ℕ → Bool
@@ -45,20 +45,10 @@ isHellers v Money.Absent = false
 isHellers v (Money.Value h) = eqb (h .0) v
 isHellers v Money.Malformed = false
 
-unfoldable pub badMoney : MoneyReading → Bool
-badMoney Money.Absent = false
-badMoney (Money.Value h) = false
-badMoney Money.Malformed = true
-
 unfoldable pub isGrams : ℕ → WeightReading → Bool
 isGrams v Weight.Absent = false
 isGrams v (Weight.Value g) = eqb (g .0) v
 isGrams v Weight.Malformed = false
-
-unfoldable pub badWeight : WeightReading → Bool
-badWeight Weight.Absent = false
-badWeight (Weight.Value g) = false
-badWeight Weight.Malformed = true
 
 -- the set of just these codes
 unfoldable pub isSet : Services → ServicesReading → Bool
@@ -66,18 +56,9 @@ isSet t Reading.Absent = false
 isSet t (Reading.Value s) = eqb (s .low) (t .low) && eqb (s .high) (t .high)
 isSet t Reading.Malformed = false
 
-unfoldable pub badServices : ServicesReading → Bool
-badServices Reading.Absent = false
-badServices (Reading.Value s) = false
-badServices Reading.Malformed = true
-
 unfoldable pub isDate : ℕ → DateReading → Bool
 isDate v (Date.Value d) = eqb d v
 isDate v Date.Malformed = false
-
-unfoldable pub badDate : DateReading → Bool
-badDate (Date.Value d) = false
-badDate Date.Malformed = true
 
 -- ---- the list
 unfoldable pub claims : List Bool
@@ -93,22 +74,22 @@ claims =
     ∷ right "BO0100010045F" 39 6  -- 7
     ∷ isHellers 0 (readMoney (inField 12 "0.00"))  -- 9
     ∷ isHellers 99999999999 (readMoney (inField 12 "999999999.99"))  -- 9
-    ∷ badMoney (readMoney (inField 12 "00.50"))  -- 10
-    ∷ badMoney (readMoney (inField 12 "1.5"))  -- 10
-    ∷ badMoney (readMoney (inField 12 " 1.50"))  -- 10
+    ∷ malformedMoney (readMoney (inField 12 "00.50"))  -- 10
+    ∷ malformedMoney (readMoney (inField 12 "1.5"))  -- 10
+    ∷ malformedMoney (readMoney (inField 12 " 1.50"))  -- 10
     ∷ isGrams 1 (readWeight (bytes " 0.001"))  -- 11
-    ∷ badWeight (readWeight (bytes "00.500"))  -- 11
-    ∷ badWeight (readWeight (bytes "0.500 "))  -- 11
+    ∷ malformedWeight (readWeight (bytes "00.500"))  -- 11
+    ∷ malformedWeight (readWeight (bytes "0.500 "))  -- 11
     ∷ isSet (withCode (withCode noServices 7) 41) (readServices (inField 30 "7+41"))  -- 12
-    ∷ badServices (readServices (inField 30 "7+"))  -- 12
-    ∷ badServices (readServices (inField 30 "7+7"))  -- 12
-    ∷ badServices (readServices (inField 30 "07"))  -- 12
+    ∷ malformedServices (readServices (inField 30 "7+"))  -- 12
+    ∷ malformedServices (readServices (inField 30 "7+7"))  -- 12
+    ∷ malformedServices (readServices (inField 30 "07"))  -- 12
     ∷ isDate 20240229 (readDate (bytes "20240229"))  -- 13
-    ∷ badDate (readDate (bytes "20230229"))  -- 13
-    ∷ badDate (readDate (bytes "19991231"))  -- 13
-    ∷ badDate (readDate (bytes "21000101"))  -- 13
+    ∷ malformedDate (readDate (bytes "20230229"))  -- 13
+    ∷ malformedDate (readDate (bytes "19991231"))  -- 13
+    ∷ malformedDate (readDate (bytes "21000101"))  -- 13
     ∷ []
 
 pub shown : allHold claims ≡ true
-unfolding bytes allHold every run numberAfter shapeOf weighted endsRight rightId adds right wrong framed daysIn readDate isMoney codesFrom hasCode withCode added readServices inField isHellers badMoney isGrams badWeight isSet badServices isDate badDate claims
+unfolding bytes allHold every run numberAfter shapeOf weighted endsRight rightId adds right wrong framed daysIn readDate isMoney codesFrom hasCode withCode added readServices inField isHellers isGrams isSet isDate claims
 shown = refl

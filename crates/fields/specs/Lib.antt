@@ -5,6 +5,7 @@ pub mod Numbers
 pub mod Others
 pub mod Amounts
 pub mod Services
+pub mod ServiceTexts
 pub mod Scans
 pub mod Calls
 pub mod Examples

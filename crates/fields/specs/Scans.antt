@@ -5,10 +5,10 @@ use mathlib.Core.Bool.{Bool, true, cond, not, _&&_}
 use mathlib.Core.List.{List}
 use lib.Dec.{eqb}
 use Rattle.text.specs.Bytes.{isBlank}
-use Rattle.fields.specs.declared.Scan.{Scan}
-use Rattle.fields.specs.declared.Services.{Services}
-use Rattle.fields.specs.declared.ServicesReading.{ServicesReading}
-use Rattle.fields.specs.declared.ServicesReading.the-variants.{Absent, Value, Malformed}
+use Rattle.fields.specs.declared.services.Scan.{Scan}
+use Rattle.fields.specs.declared.services.Services.{Services}
+use Rattle.fields.specs.declared.services.ServicesReading.{ServicesReading}
+use Rattle.fields.specs.declared.services.ServicesReading.the-variants.{Absent, Value, Malformed}
 use Rattle.fields.specs.Services.{withDigit, isCode, hasCode, withCode}
 
 abbrev pub scanOf : Services → ℕ → Bool → Scan

@@ -1,14 +1,15 @@
 -- Field 18: services, blank, or codes 1 to 99 with no leading zero, joined by "+", left-aligned, no code twice.
 -- Assumes nothing.
 use Prim.Native.Nat.{ℕ, _+_, _-_, _*_, _/_, _%_, _^_}
-use mathlib.Core.Bool.{Bool, cond, not, _&&_}
+use mathlib.Core.Bool.{Bool, true, false, cond, not, _&&_}
 use mathlib.Core.List.{List, [], _∷_}
 use lib.ListN.{length}
 use lib.Dec.{eqb, leb, ltb}
 use Rattle.text.specs.Bytes.{isDigit, isBlank}
-use Rattle.fields.specs.declared.Services.{Services}
-use Rattle.fields.specs.declared.ServicesReading.{ServicesReading}
-use Rattle.fields.specs.declared.ServicesReading.the-variants.{Absent, Value, Malformed}
+use Rattle.layout.specs.Layout.{widthOf}
+use Rattle.fields.specs.declared.services.Services.{Services}
+use Rattle.fields.specs.declared.services.ServicesReading.{ServicesReading}
+use Rattle.fields.specs.declared.services.ServicesReading.the-variants.{Absent, Value, Malformed}
 
 -- ---- the codes that a text writes, with 0 for an empty place and 100 for what is no code
 -- a code with one more digit: 100 for a leading zero and for a third digit
@@ -47,4 +48,16 @@ added s [] = Value s
 added s (c ∷ cs) = cond (isCode c && not (hasCode s c)) (added (withCode s c) cs) Malformed
 
 unfoldable pub readServices : List ℕ → ServicesReading
-readServices f = cond (eqb (length f) 30) (cond (isBlank f) Absent (added noServices (codesOf f))) Malformed
+readServices f = cond (eqb (length f) (widthOf 18)) (cond (isBlank f) Absent (added noServices (codesOf f))) Malformed
+
+-- ---- what the rules ask of the field
+abbrev pub malformedServices : ServicesReading → Bool
+malformedServices Absent = false
+malformedServices (Value s) = false
+malformedServices Malformed = true
+
+-- the services that were read; none where the field is blank
+abbrev pub servicesIn : ServicesReading → Services
+servicesIn Absent = noServices
+servicesIn (Value s) = s
+servicesIn Malformed = noServices

@@ -1,15 +1,16 @@
 -- Fields of CP852 text, and the e-mail. What stands for the text as data is its length.
 -- Assumes nothing.
 use Prim.Native.Nat.{ℕ, suc, _+_, _-_}
-use mathlib.Core.Bool.{Bool, false, cond, not, _&&_, _||_}
+use mathlib.Core.Bool.{Bool, true, false, cond, not, _&&_, _||_}
 use mathlib.Core.List.{List, [], _∷_}
 use lib.ListN.{getD, drop}
 use lib.Dec.{eqb, leb, ltb}
 use Rattle.text.specs.Bytes.{every, isBlank, run}
 use Rattle.text.specs.Lists.{part}
+use Rattle.layout.specs.Layout.{widthOf}
 use Rattle.fields.specs.Frame.{framed}
-use Rattle.fields.specs.declared.TextReading.{TextReading}
-use Rattle.fields.specs.declared.TextReading.the-variants.{Absent, Value, Malformed}
+use Rattle.fields.specs.declared.texts.TextReading.{TextReading}
+use Rattle.fields.specs.declared.texts.TextReading.the-variants.{Absent, Value, Malformed}
 
 -- ---- 4, 7 to 11, 20, 26: bytes 20h-7Eh and 80h-FFh, the first not a space unless the field is blank
 abbrev pub isText : ℕ → Bool
@@ -51,4 +52,15 @@ abbrev pub mailEnd : List ℕ → ℕ
 mailEnd f = atIn f + 1 + run isPlain (behindAt f)
 
 abbrev pub readMail : List ℕ → TextReading
-readMail f = framed Absent Malformed 50 f (isMail f) (Value (mailEnd f))
+readMail f = framed Absent Malformed (widthOf 13) f (isMail f) (Value (mailEnd f))
+
+-- ---- what the rules ask of such a field
+abbrev pub malformedText : TextReading → Bool
+malformedText Absent = false
+malformedText (Value n) = false
+malformedText Malformed = true
+
+abbrev pub absentText : TextReading → Bool
+absentText Absent = true
+absentText (Value n) = false
+absentText Malformed = false

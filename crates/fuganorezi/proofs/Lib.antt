@@ -1,2 +1,3 @@
 pub mod OneOutcome
 pub mod Ways
+pub mod Demand

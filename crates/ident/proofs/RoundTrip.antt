@@ -19,9 +19,10 @@ use Rattle.text.specs.Numbers.{digits}
 use Rattle.text.proofs.Lists.{spelled}
 use Rattle.text.proofs.Numbers.{ten-is, is-digit, every-append, length-digits, digits-all, number-digits, number-below, digits-number}
 use Rattle.text.proofs.Ranges.{below}
+use Rattle.text.proofs.Booleans.{clash}
 use Rattle.ident.specs.declared.Parts.{Parts}
 use Rattle.ident.specs.Identifier.{lastOf, consignorDigits, postingDigits, consignorOf, postingOf, weightsFor, weighted, checkDigit, remainder, endsRight, rightId}
-use Rattle.ident.specs.Calls.{partsOf, bodyOf, checkByte, postfix, written, canWrite}
+use Rattle.ident.specs.Calls.{partsOf, bothNumbers, checkByte, postfix, written, canWrite}
 use Rattle.ident.proofs.Shapes.{eight-or-nine}
 use Rattle.ident.proofs.Facts.{Right, right-facts}
 use Rattle.ident.proofs.Writing.{can-prefix, can-known, consignor-fits, posting-fits, can-numbers, before-is, body-long}
@@ -72,9 +73,9 @@ module _ (p : Parts) (can : canWrite p ≡ true) where
   abbrev cz : Bool
   cz = eqb (p .last) 90
 
-  has : Line (written p) (k + w) (p .last) (checkByte p) cz (bodyOf p)
+  has : Line (written p) (k + w) (p .last) (checkByte p) cz (bothNumbers p)
   unfolding written
-  has = line-has cz (p .first) (p .second) (p .last) (checkByte p) (k + w) (bodyOf p) (before-is p can) (body-long p can)
+  has = line-has cz (p .first) (p .second) (p .last) (checkByte p) (k + w) (bothNumbers p) (before-is p can) (body-long p can)
 
   consignor-back : consignorOf (written p) ≡ p .consignor
   unfolding written
@@ -103,12 +104,12 @@ module _ (p : Parts) (can : canWrite p ≡ true) where
   all-digits : allDigits (part (written p) 2 (k + w + 3)) ≡ true
   unfolding every
   all-digits =
-      let r : ℕ = weighted (weightsFor (k + w)) (bodyOf p) % 11 in
+      let r : ℕ = weighted (weightsFor (k + w)) (bothNumbers p) % 11 in
       let small : checkDigit r ≤ 9 = check-digit-small r (mod-lt _ (omega arith)) in
       let digit : isDigit (checkByte p) ≡ true = is-digit (checkByte p) (omega arith) (omega arith) in
-      let body : allDigits (bodyOf p) ≡ true =
+      let body : allDigits (bothNumbers p) ≡ true =
       every-append isDigit (digits k (p .consignor)) (digits w (p .posting)) ∙ rw (digits-all k (p .consignor), digits-all w (p .posting)) in
-      rw (has .digits, every-append isDigit (bodyOf p) (checkByte p ∷ []), body, digit)
+      rw (has .digits, every-append isDigit (bothNumbers p) (checkByte p ∷ []), body, digit)
 
   ends : endsRight (written p) ≡ true
   unfolding endsRight
@@ -207,13 +208,10 @@ module _ (s : List ℕ) (right : rightId s ≡ true) where
 -- ---- code 1 comes exactly where no right identifier has the parts
 pub refused-exactly : (p : Parts) → (canWrite p ≡ false) ↔ ((s : List ℕ) → rightId s ≡ true → partsOf s ≡ p → ⊥)
 refused-exactly p = (
-  λ no s right e. clash (canWrite p) no (sym (ap canWrite e) ∙ right-can-be-written s right),
+  λ no s right e. clash (sym (ap canWrite e) ∙ right-can-be-written s right) no,
   λ none. go (canWrite p) refl none,
 )
   where
-    clash : (b : Bool) → b ≡ false → b ≡ true → ⊥
-    clash b e h = let z : _≡_ {A = ℕ} 0 1 = cc in omega arith
-
     go : (b : Bool) → canWrite p ≡ b → ((s : List ℕ) → rightId s ≡ true → partsOf s ≡ p → ⊥) → b ≡ false
     go true e none = absurd (none (written p) (written-right p e) (written-parts p e))
     go false e none = refl

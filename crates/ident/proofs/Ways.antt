@@ -12,7 +12,7 @@ use Rattle.text.specs.Answers.{answer, accepted}
 use Rattle.text.specs.Bytes.{isCapital, allDigits}
 use Rattle.text.specs.Lists.{part}
 use Rattle.text.specs.Numbers.{numberOf, numberOfFirst}
-use Rattle.text.proofs.Numbers.{few-digits}
+use Rattle.text.proofs.Numbers.{few}
 use Rattle.ident.specs.declared.Shape.{Shape}
 use Rattle.ident.specs.declared.Parts.{Parts}
 use Rattle.ident.specs.Identifier.{rightPrefix, lastOf, consignorDigits, postingDigits, weights, weighted, checkDigit, passesAt, endsRight, rightId}
@@ -29,9 +29,6 @@ pub fits-is : (s : List ℕ) (n sum d : ℕ) → sum ≡ weighted (drop (9 - n) 
 fits-is s n sum d e g = rw (g, e)
 
 -- ---- parts_of
-few : (s : List ℕ) (a e : ℕ) → e - a ≤ 16 → numberOfFirst 16 (part s a e) ≡ numberOf (part s a e)
-few s a e h = few-digits 16 (part s a e) (simp length-take (omega arith))
-
 pub parts-are : (s : List ℕ) (h : Shape) (c p : ℕ) → Looked h (lastOf s)
     → c ≡ numberOfFirst 16 (part s 2 (h .consignor + 2))
     → p ≡ numberOfFirst 16 (part s (h .consignor + 2) (h .consignor + h .posting + 2))

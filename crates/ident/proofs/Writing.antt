@@ -17,7 +17,7 @@ use Rattle.text.proofs.Numbers.{ten-is, ten-grows, length-digits, digits-beside
 use Rattle.ident.specs.declared.Shape.{Shape}
 use Rattle.ident.specs.declared.Parts.{Parts}
 use Rattle.ident.specs.Identifier.{rightPrefix, consignorDigits, postingDigits, digitsBefore, weights, weightsFor, weighted, checkDigit}
-use Rattle.ident.specs.Calls.{bodyOf, checkByte, written, canWrite}
+use Rattle.ident.specs.Calls.{bothNumbers, checkByte, written, canWrite}
 use Rattle.ident.proofs.Shapes.{Looked, eight-or-nine}
 
 -- ---- what parts that can be written have
@@ -53,14 +53,14 @@ module _ (p : Parts) (can : canWrite p ≡ true) where
   pub before-is : digitsBefore (p .last) ≡ cond (eqb (p .last) 90) 8 9
   before-is = eight-or-nine (p .last) (λ e. omega (arith, can-known))
 
-  pub body-long : length (bodyOf p) ≡ digitsBefore (p .last)
+  pub body-long : length (bothNumbers p) ≡ digitsBefore (p .last)
   body-long = simp (length-append, length-digits)
 
   -- consignor and posting number side by side, as one number
   number-below : p .consignor * 10 ^ postingDigits (p .last) + p .posting < 10 ^ digitsBefore (p .last)
   number-below = rw (pow-add 10 (consignorDigits (p .last)) (postingDigits (p .last))) (digits-lt consignor-fits posting-fits)
 
-  body-digits : digits (digitsBefore (p .last)) (p .consignor * 10 ^ postingDigits (p .last) + p .posting) ≡ bodyOf p
+  body-digits : digits (digitsBefore (p .last)) (p .consignor * 10 ^ postingDigits (p .last) + p .posting) ≡ bothNumbers p
   body-digits =
       rw (ten-is (postingDigits (p .last)))
       (digits-beside (consignorDigits (p .last)) (p .consignor) (postingDigits (p .last)) (p .posting) (rw (ten-is (postingDigits (p .last))) at posting-fits))
@@ -87,11 +87,11 @@ module _ (s t : List ℕ) (p : Parts) (n y x sum : ℕ) (long : length s ≡ 13)
   filled-at et es ex =
       let nine : n ≡ cond (eqb (p .last) 90) 8 9 = en ∙ before-is p can in
       let few : n + 2 ≤ length s = omega (arith, bounded (eqb (p .last) 90)) in
-      let body : t ≡ bodyOf p = et ∙ rw (mid-len 2 (n + 2) s few, ey, back n, en) (body-digits p can) in
+      let body : t ≡ bothNumbers p = et ∙ rw (mid-len 2 (n + 2) s few, ey, back n, en) (body-digits p can) in
       let there : take (n + 2 - 2) (drop 2 (putMid 2 (n + 2 - 2) s t)) ≡ t =
       put-there 2 (n + 2) s t (omega arith) few (ap length body ∙ body-long p can ∙ sym en ∙ sym (back n)) in
       let digit : 48 + x ≡ checkByte p = ap (λ (z : ℕ). 48 + z) (ex ∙ rw (es, there, body, en)) in
-      rw (put-is 2 (n + 2) s t (omega arith) few, body, digit) (stored (eqb (p .last) 90) s (bodyOf p) (p .first) (p .second) (p .last) (checkByte p) n long nine (body-long p can ∙ sym en))
+      rw (put-is 2 (n + 2) s t (omega arith) few, body, digit) (stored (eqb (p .last) 90) s (bothNumbers p) (p .first) (p .second) (p .last) (checkByte p) n long nine (body-long p can ∙ sym en))
     where
       back : (m : ℕ) → m + 2 - 2 ≡ m
       back m = omega arith

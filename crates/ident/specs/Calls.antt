@@ -38,18 +38,18 @@ Read s r = r ≡ cond (rightId s) (Right (partsOf s)) (Refused notRight)
 
 -- ---- write
 -- consignor and posting number in their digits
-abbrev pub bodyOf : Parts → List ℕ
-bodyOf p = digits (consignorDigits (p .last)) (p .consignor) ++ digits (postingDigits (p .last)) (p .posting)
+abbrev pub bothNumbers : Parts → List ℕ
+bothNumbers p = digits (consignorDigits (p .last)) (p .consignor) ++ digits (postingDigits (p .last)) (p .posting)
 
 abbrev pub checkByte : Parts → ℕ
-checkByte p = 48 + checkDigit (weighted (weightsFor (digitsBefore (p .last))) (bodyOf p) % 11)
+checkByte p = 48 + checkDigit (weighted (weightsFor (digitsBefore (p .last))) (bothNumbers p) % 11)
 
 abbrev pub postfix : ℕ → List ℕ
 postfix l = cond (eqb l 90) (67 ∷ l ∷ []) (l ∷ [])
 
 -- the identifier that has these parts
 unfoldable pub written : Parts → List ℕ
-written p = p .first ∷ p .second ∷ (bodyOf p ++ checkByte p ∷ postfix (p .last))
+written p = p .first ∷ p .second ∷ (bothNumbers p ++ checkByte p ∷ postfix (p .last))
 
 -- some right identifier has these parts
 unfoldable pub canWrite : Parts → Bool

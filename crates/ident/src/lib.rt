@@ -5,7 +5,12 @@ ghost use Prim.Native.Nat.{_+_, _^_, _≤_, _<_};
 ghost use lib.ListN.{length, drop};
 ghost use Rattle.ident.specs.Identifier.{shapeOf, rightPrefix, weights, weighted, checkDigit, passesAt, endsRight, rightId};
 ghost use Rattle.ident.specs.Calls.{partsOf, canWrite, written, Checked, Read, Written, Compared};
+use text::ACCEPTED;
 use text::Answer;
+use text::WRONG_LENGTH;
+
+// What is no right identifier.
+pub const NOT_RIGHT: Answer = Answer { code: 1, place: 1 };
 
 // How many digits an identifier has by its last byte; none and none where no identifier ends so.
 pub struct Shape {
@@ -182,11 +187,7 @@ fn right(id: &[u8]) -> bool
 pub fn check(id: &[u8]) -> Answer
     ensures { λ r. ⌜ Checked (now (id .entry)) r ⌝ }
 {
-    if right(id) {
-        Answer { code: 0, place: 0 }
-    } else {
-        Answer { code: 1, place: 1 }
-    }
+    if right(id) { ACCEPTED } else { NOT_RIGHT }
 }
 
 pub fn read(id: &[u8]) -> Reading
@@ -195,7 +196,7 @@ pub fn read(id: &[u8]) -> Reading
     if right(id) {
         Reading::Right(parts_of(id))
     } else {
-        Reading::Refused(Answer { code: 1, place: 1 })
+        Reading::Refused(NOT_RIGHT)
     }
 }
 
@@ -238,16 +239,13 @@ pub fn write(part: &mut [u8], p: Parts) -> Answer
     ensures { λ r. ⌜ Written (now (part .entry)) p r (now (part .exit)) ⌝ }
 {
     if part.len() != 13 {
-        return Answer {
-            code: 236,
-            place: 0,
-        };
+        return WRONG_LENGTH;
     }
     if !can_write(p) {
-        return Answer { code: 1, place: 1 };
+        return NOT_RIGHT;
     }
     fill(part, p);
-    Answer { code: 0, place: 0 }
+    ACCEPTED
 }
 
 // Whether two identifiers are the same bytes. Everything above compares them here.

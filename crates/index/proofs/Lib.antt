@@ -1,2 +1,4 @@
+pub mod Keys
 pub mod Slots
 pub mod Ways
+pub mod OneOutcome

@@ -1,8 +1,9 @@
--- The table of an index: one record more, at the slot where the search for its key ends, and every search ends where it should.
+-- The table of an index: in any table, what is found has the key; and with one record more, noted where the walk for its key ends, every walk still
+-- ends where it should.
 -- Assumes nothing.
-use Prim.Native.Nat.{ℕ, zero, suc, _+_, _-_, _*_, _/_, _%_, _≤_, _<_}
-use mathlib.Core.Path.{_≡_, refl, sym, ap, _∙_}
-use mathlib.Core.Bool.{Bool, true, false, cond, _||_}
+use Prim.Native.Nat.{ℕ, zero, suc, _+_, _-_, _≤_, _<_}
+use mathlib.Core.Path.{_≡_, refl, sym, ap, subst, _∙_}
+use mathlib.Core.Bool.{Bool, true, false, cond, not, _&&_}
 use mathlib.Core.List.{List, [], _∷_}
 use native.Mathlib.Omega.{arith}
 use native.Mathlib.Nat.{mod-lt}
@@ -14,7 +15,8 @@ use lib.Seq.{getD-set-same, getD-set-other}
 use Rattle.text.specs.Lists.{sameBytes}
 use Rattle.text.proofs.Lists.{same-exactly, same-refl}
 use Rattle.text.proofs.Booleans.{clash}
-use Rattle.index.specs.Index.{keyAt, seek, halfAt, hashOf, stops, next, slotFrom, taken, Indexed}
+use Rattle.index.specs.Index.{keyAt, hasKey, seek, named, namedAt, hashOf, ends, next, slotFrom, slotOf, found, noting}
+use Rattle.index.specs.Laws.{Has, FoundHas, kept, KeptFinds, taken, Indexed, IndexedNone, IndexedMore}
 
 -- ---- what `seek` says
 pub seek-down : (file : List ℕ) (from : ℕ) (key : List ℕ) (n : ℕ) → seek file from key (n + 1) ≡ cond (sameBytes (keyAt file from n) key) (suc n) (seek file from key n)
@@ -128,200 +130,294 @@ around m s j l h = go (ltb j s) refl
     go true t = let x = ltb-true j s t in hop-high m s (j + m - s) (omega arith) ∙ omega arith
     go false t = let x = ltb-false j s t in hop-low m s (j - s) (omega arith) ∙ omega arith
 
+-- ---- what a slot names
+pub named-zero : (file : List ℕ) (from : ℕ) → named file from 0 ≡ 0
+unfolding named
+named-zero file from = refl
+
+pub named-is : (file : List ℕ) (from t : ℕ) → (t ≡ 0 → ⊥) → hasKey file from (t - 1) ≡ true → named file from t ≡ t
+unfolding named
+named-is file from t busy has = rw (ne-eqb t 0 busy, has)
+
+pub named-none : (file : List ℕ) (from t : ℕ) → hasKey file from (t - 1) ≡ false → named file from t ≡ 0
+unfolding named
+named-none file from t lacks = rw lacks (go (eqb t 0))
+  where
+    go : (b : Bool) → cond (not b && false) t 0 ≡ 0
+    go true = refl
+    go false = refl
+
+-- what is named has its key
+pub named-has : (file : List ℕ) (from t : ℕ) → (named file from t ≡ 0 → ⊥) → hasKey file from (named file from t - 1) ≡ true
+named-has file from t busy = go (eqb t 0) refl (hasKey file from (t - 1)) refl
+  where
+    go : (b : Bool) → eqb t 0 ≡ b → (k : Bool) → hasKey file from (t - 1) ≡ k → hasKey file from (named file from t - 1) ≡ true
+    go true z k has = absurd (busy (rw (eqb-true t 0 z) (named-zero file from)))
+    go false z true has = rw (named-is file from t (eqb-false t 0 z) has) has
+    go false z false has = absurd (busy (named-none file from t has))
+
+pub named-beyond : (table file : List ℕ) (from s : ℕ) → length table ≤ s → namedAt table file from s ≡ 0
+named-beyond table file from s h = rw (List·getD-eq-default table 0 {n = s} h) (named-zero file from)
+
 -- ---- a walk
 module _ (m : ℕ) (table file : List ℕ) (from : ℕ) (key : List ℕ) where
+  abbrev slot : ℕ → ℕ → ℕ
+  slot q s = slotFrom m table file from key q s
+
   -- one slot on
-  pub slot-here : (q s : ℕ) → stops table file from key s ≡ true → slotFrom m table file from key (suc q) s ≡ s
+  pub slot-here : (q s : ℕ) → ends table file from key s ≡ true → slot (suc q) s ≡ s
   unfolding slotFrom
   slot-here q s t = rw t
 
-  pub slot-on : (q s : ℕ) → stops table file from key s ≡ false → slotFrom m table file from key (suc q) s ≡ slotFrom m table file from key q (next m s)
+  pub slot-on : (q s : ℕ) → ends table file from key s ≡ false → slot (suc q) s ≡ slot q (next m s)
   unfolding slotFrom
   slot-on q s t = rw t
 
-  pub slot-out : (s : ℕ) → slotFrom m table file from key 0 s ≡ m
+  pub slot-out : (s : ℕ) → slot 0 s ≡ m
   unfolding slotFrom
   slot-out s = refl
 
-  -- where it ends, it stops
-  slot-stops : (q s : ℕ) → slotFrom m table file from key q s < m → stops table file from key (slotFrom m table file from key q s) ≡ true
-  slot-stops zero s h = absurd (omega (arith, slot-out s))
-  slot-stops (suc q) s h = go (stops table file from key s) refl (slot-stops q (next m s))
+  -- it ends where it may
+  slot-ends : (q s : ℕ) → slot q s < m → ends table file from key (slot q s) ≡ true
+  slot-ends zero s h = absurd (omega (arith, slot-out s))
+  slot-ends (suc q) s h = go (ends table file from key s) refl (slot-ends q (next m s))
     where
-      go : (t : Bool) → stops table file from key s ≡ t
-          → (slotFrom m table file from key q (next m s) < m → stops table file from key (slotFrom m table file from key q (next m s)) ≡ true)
-          → stops table file from key (slotFrom m table file from key (suc q) s) ≡ true
+      go : (t : Bool) → ends table file from key s ≡ t → (slot q (next m s) < m → ends table file from key (slot q (next m s)) ≡ true)
+          → ends table file from key (slot (suc q) s) ≡ true
       go true t ih = rw (slot-here q s t) t
       go false t ih = rw (slot-on q s t) (ih (rw (slot-on q s t) at h))
 
-  busy-slot : (s : ℕ) → stops table file from key s ≡ false → getD table s 0 ≡ 0 → ⊥
-  busy-slot s f e = clash {b = stops table file from key s} (rw (eq-eqb (getD table s 0) 0 e)) f
+  busy-slot : (s : ℕ) → ends table file from key s ≡ false → namedAt table file from s ≡ 0 → ⊥
+  busy-slot s f e = clash {b = ends table file from key s} (rw (eq-eqb (namedAt table file from s) 0 e)) f
 
-  -- it ends at no slot only where none is free
-  all-busy : (q s : ℕ) → q ≤ m → s < m → (slotFrom m table file from key q s < m → ⊥) → (k : ℕ) → k < q → getD table (hop m s k) 0 ≡ 0 → ⊥
+  -- it ends at no slot only where each names a record
+  all-busy : (q s : ℕ) → q ≤ m → s < m → (slot q s < m → ⊥) → (k : ℕ) → k < q → namedAt table file from (hop m s k) ≡ 0 → ⊥
   all-busy zero s few l n k h = absurd (omega arith)
-  all-busy (suc q) s few l n k h = go (stops table file from key s) refl k h (all-busy q (next m s) (omega arith) (next-low m s l))
+  all-busy (suc q) s few l n k h = go (ends table file from key s) refl k h (all-busy q (next m s) (omega arith) (next-low m s l))
     where
-      go : (t : Bool) → stops table file from key s ≡ t → (i : ℕ) → i < suc q
-          → ((slotFrom m table file from key q (next m s) < m → ⊥) → (j : ℕ) → j < q → getD table (hop m (next m s) j) 0 ≡ 0 → ⊥)
-          → getD table (hop m s i) 0 ≡ 0 → ⊥
+      go : (t : Bool) → ends table file from key s ≡ t → (i : ℕ) → i < suc q
+          → ((slot q (next m s) < m → ⊥) → (j : ℕ) → j < q → namedAt table file from (hop m (next m s) j) ≡ 0 → ⊥)
+          → namedAt table file from (hop m s i) ≡ 0 → ⊥
       go true t i hi ih e = n (rw (slot-here q s t) l)
       go false t zero hi ih e = busy-slot s t (rw (hop-none m s l) at e)
       go false t (suc i) hi ih e = ih (λ x. n (rw (slot-on q s t) x)) i (omega arith) (rw (hop-next m s i l (omega arith)) at e)
 
-  pub slot-there : (s : ℕ) → s < m → length table ≡ m → taken table < m → slotFrom m table file from key m s < m
-  slot-there s l long few = go (ltb (slotFrom m table file from key m s) m) refl
+  slot-there : (s : ℕ) → s < m → length table ≡ m → taken table < m → slot m s < m
+  slot-there s l long few = go (ltb (slot m s) m) refl
     where
-      go : (t : Bool) → ltb (slotFrom m table file from key m s) m ≡ t → slotFrom m table file from key m s < m
-      go true t = ltb-true (slotFrom m table file from key m s) m t
+      busy : (slot m s < m → ⊥) → (j : ℕ) → j < length table → getD table j 0 ≡ 0 → ⊥
+      busy out j h e =
+          all-busy m s (omega arith) l out (back m s j) (back-low m s j l (omega arith)) (rw (around m s j l (omega arith), e) (named-zero file from))
+
+      go : (t : Bool) → ltb (slot m s) m ≡ t → slot m s < m
+      go true t = ltb-true (slot m s) m t
       go false t =
-          let high = ltb-false (slotFrom m table file from key m s) m t in
-          let busy : (j : ℕ) → j < length table → getD table j 0 ≡ 0 → ⊥ = λ j h e. all-busy m s (omega arith) l (λ x. omega arith) (back m s j) (back-low m s j l (omega arith)) (rw (around m s j l (omega arith)) e) in
-          absurd (omega (arith, taken-all table busy))
+          let high = ltb-false (slot m s) m t in
+          absurd (omega (arith, taken-all table (busy (λ x. omega arith))))
 
   -- no record of the table has the key
-  slot-quiet : ((s : ℕ) → stops table file from key s ≡ true → getD table s 0 ≡ 0) → length table ≡ m → (q s : ℕ) → getD table (slotFrom m table file from key q s) 0 ≡ 0
-  slot-quiet quiet long zero s = rw (slot-out s) (List·getD-eq-default table 0 (omega arith))
-  slot-quiet quiet long (suc q) s = go (stops table file from key s) refl (slot-quiet quiet long q (next m s))
+  slot-quiet : ((s : ℕ) → ends table file from key s ≡ true → namedAt table file from s ≡ 0) → length table ≡ m → (q s : ℕ) → namedAt table file from (slot q s) ≡ 0
+  slot-quiet quiet long zero s = rw (slot-out s) (named-beyond table file from m (omega arith))
+  slot-quiet quiet long (suc q) s = go (ends table file from key s) refl (slot-quiet quiet long q (next m s))
     where
-      go : (t : Bool) → stops table file from key s ≡ t → getD table (slotFrom m table file from key q (next m s)) 0 ≡ 0
-          → getD table (slotFrom m table file from key (suc q) s) 0 ≡ 0
+      go : (t : Bool) → ends table file from key s ≡ t → namedAt table file from (slot q (next m s)) ≡ 0 → namedAt table file from (slot (suc q) s) ≡ 0
       go true t ih = rw (slot-here q s t) (quiet s t)
       go false t ih = rw (slot-on q s t) ih
 
+-- ---- in any table, what is found has the key
+pub found-has : FoundHas
+unfolding found slotOf
+found-has table file from key i e = go (ltb (slotOf table file from key) (length table)) refl
+  where
+    busy : found table file from key ≡ 0 → ⊥
+    busy z = omega arith
+
+    back-i : found table file from key - 1 ≡ i
+    back-i = omega arith
+
+    go : (t : Bool) → ltb (slotOf table file from key) (length table) ≡ t → Has file from key i
+    go false t = absurd (busy (named-beyond table file from (slotOf table file from key) (ltb-false _ (length table) t)))
+    go true t =
+        let ended = slot-ends (length table) table file from key (length table) (hashOf (length table) key) (ltb-true (slotOf table file from key) (length table) t) in
+        record {
+          inside = rw back-i at (named-has file from (getD table (slotOf table file from key) 0) busy);
+          same = same-exactly (keyAt file from i) key .0 (rw (ne-eqb (found table file from key) 0 busy, back-i) at ended);
+        }
+
 -- ---- one record more, at slot p
-module _ (m : ℕ) (table file : List ℕ) (from n p : ℕ) (long : length table ≡ m) (lp : p < m) where
-  at-p : getD (set table p (n + 1)) p 0 ≡ n + 1
-  at-p = getD-set-same table p (n + 1) 0 (omega arith)
+module _ (m : ℕ) (table file : List ℕ) (from n p : ℕ) (long : length table ≡ m) (lp : p < m) (has : hasKey file from n ≡ true) where
+  abbrev after : List ℕ
+  after = set table p (n + 1)
 
-  not-p : (s : ℕ) → (s ≡ p → ⊥) → getD (set table p (n + 1)) s 0 ≡ getD table s 0
-  not-p s h = getD-set-other table p s (n + 1) 0 h
+  abbrev own : List ℕ
+  own = keyAt file from n
 
-  stops-p : (key : List ℕ) → stops (set table p (n + 1)) file from key p ≡ sameBytes (keyAt file from n) key
-  stops-p key =
+  at-p : namedAt after file from p ≡ n + 1
+  at-p =
+      let back : n + 1 - 1 ≡ n = omega arith in
+      rw (getD-set-same table p (n + 1) 0 (omega arith)) (named-is file from (n + 1) (λ z. omega arith) (rw back has))
+
+  not-p : (s : ℕ) → (s ≡ p → ⊥) → namedAt after file from s ≡ namedAt table file from s
+  not-p s h = rw (getD-set-other table p s (n + 1) 0 h)
+
+  ends-p : (key : List ℕ) → ends after file from key p ≡ sameBytes own key
+  ends-p key =
       let back : n + 1 - 1 ≡ n = omega arith in
       rw (at-p, ne-eqb (n + 1) 0 (λ e. omega arith), back)
 
-  stops-not : (key : List ℕ) (s : ℕ) → (s ≡ p → ⊥) → stops (set table p (n + 1)) file from key s ≡ stops table file from key s
-  stops-not key s h = rw (not-p s h)
+  ends-not : (key : List ℕ) (s : ℕ) → (s ≡ p → ⊥) → ends after file from key s ≡ ends table file from key s
+  ends-not key s h = rw (not-p s h)
 
   -- the record's own key is found there
-  own-slot : (q s : ℕ) → slotFrom m table file from (keyAt file from n) q s ≡ p → slotFrom m (set table p (n + 1)) file from (keyAt file from n) q s ≡ p
-  own-slot zero s e = absurd (omega (arith, slot-out m table file from (keyAt file from n) s))
-  own-slot (suc q) s e = go (eqb s p) refl (stops table file from (keyAt file from n) s) refl (own-slot q (next m s))
+  own-slot : (q s : ℕ) → slotFrom m table file from own q s ≡ p → slotFrom m after file from own q s ≡ p
+  own-slot zero s e = absurd (omega (arith, slot-out m table file from own s))
+  own-slot (suc q) s e = go (eqb s p) refl (ends table file from own s) refl (own-slot q (next m s))
     where
-      go : (t : Bool) → eqb s p ≡ t → (u : Bool) → stops table file from (keyAt file from n) s ≡ u
-          → (slotFrom m table file from (keyAt file from n) q (next m s) ≡ p → slotFrom m (set table p (n + 1)) file from (keyAt file from n) q (next m s) ≡ p)
-          → slotFrom m (set table p (n + 1)) file from (keyAt file from n) (suc q) s ≡ p
+      go : (t : Bool) → eqb s p ≡ t → (u : Bool) → ends table file from own s ≡ u
+          → (slotFrom m table file from own q (next m s) ≡ p → slotFrom m after file from own q (next m s) ≡ p)
+          → slotFrom m after file from own (suc q) s ≡ p
       go true t u eu ih =
           let here = eqb-true s p t in
-          slot-here m (set table p (n + 1)) file from (keyAt file from n) q s (rw here (stops-p (keyAt file from n) ∙ same-refl (keyAt file from n))) ∙ here
-      go false t true eu ih = absurd (eqb-false s p t (sym (slot-here m table file from (keyAt file from n) q s eu) ∙ e))
+          slot-here m after file from own q s (rw here (ends-p own ∙ same-refl own)) ∙ here
+      go false t true eu ih = absurd (eqb-false s p t (sym (slot-here m table file from own q s eu) ∙ e))
       go false t false eu ih =
-          slot-on m (set table p (n + 1)) file from (keyAt file from n) q s (stops-not (keyAt file from n) s (eqb-false s p t) ∙ eu)
-          ∙ ih (sym (slot-on m table file from (keyAt file from n) q s eu) ∙ e)
+          slot-on m after file from own q s (ends-not own s (eqb-false s p t) ∙ eu)
+          ∙ ih (sym (slot-on m table file from own q s eu) ∙ e)
 
   -- another key is found where it was
-  module _ (key : List ℕ) (ends : stops table file from (keyAt file from n) p ≡ true) (differ : sameBytes (keyAt file from n) key ≡ false) where
-    passes : (getD table p 0 ≡ 0 → ⊥) → stops table file from key p ≡ false
+  module _ (key : List ℕ) (ended : ends table file from own p ≡ true) (differ : sameBytes own key ≡ false) where
+    passes : (namedAt table file from p ≡ 0 → ⊥) → ends table file from key p ≡ false
     passes busy =
-        let one : keyAt file from (getD table p 0 - 1) ≡ keyAt file from n = same-exactly (keyAt file from (getD table p 0 - 1)) (keyAt file from n) .0 (rw (ne-eqb (getD table p 0) 0 busy) at ends) in
-        rw (ne-eqb (getD table p 0) 0 busy, one) differ
+        let one : keyAt file from (namedAt table file from p - 1) ≡ own = same-exactly (keyAt file from (namedAt table file from p - 1)) own .0 (rw (ne-eqb (namedAt table file from p) 0 busy) at ended) in
+        rw (ne-eqb (namedAt table file from p) 0 busy, one) differ
 
-    other-slot : (k : ℕ) → 0 < k → (q s : ℕ) → getD table (slotFrom m table file from key q s) 0 ≡ k → getD (set table p (n + 1)) (slotFrom m (set table p (n + 1)) file from key q s) 0 ≡ k
-    other-slot k pos zero s e = absurd (omega (arith, rw (slot-out m table file from key s) at e, List·getD-eq-default table 0 {n = m} (omega arith)))
-    other-slot k pos (suc q) s e = go (eqb s p) refl (stops table file from key s) refl (other-slot k pos q (next m s))
+    other-slot : (k : ℕ) → 0 < k → (q s : ℕ) → namedAt table file from (slotFrom m table file from key q s) ≡ k → namedAt after file from (slotFrom m after file from key q s) ≡ k
+    other-slot k pos zero s e = absurd (omega (arith, rw (slot-out m table file from key s) at e, named-beyond table file from m (omega arith)))
+    other-slot k pos (suc q) s e = go (eqb s p) refl (ends table file from key s) refl (other-slot k pos q (next m s))
       where
-        on : stops table file from key s ≡ false → stops (set table p (n + 1)) file from key s ≡ false
-            → (getD table (slotFrom m table file from key q (next m s)) 0 ≡ k → getD (set table p (n + 1)) (slotFrom m (set table p (n + 1)) file from key q (next m s)) 0 ≡ k)
-            → getD (set table p (n + 1)) (slotFrom m (set table p (n + 1)) file from key (suc q) s) 0 ≡ k
-        on f g ih = rw (slot-on m (set table p (n + 1)) file from key q s g) (ih (rw (slot-on m table file from key q s f) at e))
+        on : ends table file from key s ≡ false → ends after file from key s ≡ false
+            → (namedAt table file from (slotFrom m table file from key q (next m s)) ≡ k → namedAt after file from (slotFrom m after file from key q (next m s)) ≡ k)
+            → namedAt after file from (slotFrom m after file from key (suc q) s) ≡ k
+        on f g ih = rw (slot-on m after file from key q s g) (ih (rw (slot-on m table file from key q s f) at e))
 
-        go : (t : Bool) → eqb s p ≡ t → (u : Bool) → stops table file from key s ≡ u
-            → (getD table (slotFrom m table file from key q (next m s)) 0 ≡ k → getD (set table p (n + 1)) (slotFrom m (set table p (n + 1)) file from key q (next m s)) 0 ≡ k)
-            → getD (set table p (n + 1)) (slotFrom m (set table p (n + 1)) file from key (suc q) s) 0 ≡ k
+        go : (t : Bool) → eqb s p ≡ t → (u : Bool) → ends table file from key s ≡ u
+            → (namedAt table file from (slotFrom m table file from key q (next m s)) ≡ k → namedAt after file from (slotFrom m after file from key q (next m s)) ≡ k)
+            → namedAt after file from (slotFrom m after file from key (suc q) s) ≡ k
         go true t true eu ih =
             let here = eqb-true s p t in
-            let full : getD table p 0 ≡ k = rw (slot-here m table file from key q s eu, here) at e in
+            let full : namedAt table file from p ≡ k = rw (slot-here m table file from key q s eu, here) at e in
             absurd (clash (rw here at eu) (passes (λ z. omega arith)))
-        go true t false eu ih = let here = eqb-true s p t in on eu (rw here (stops-p key ∙ differ)) ih
+        go true t false eu ih = let here = eqb-true s p t in on eu (rw here (ends-p key ∙ differ)) ih
         go false t true eu ih =
-            rw (slot-here m (set table p (n + 1)) file from key q s (stops-not key s (eqb-false s p t) ∙ eu), not-p s (eqb-false s p t))
+            rw (slot-here m after file from key q s (ends-not key s (eqb-false s p t) ∙ eu), not-p s (eqb-false s p t))
             (rw (slot-here m table file from key q s eu) at e)
-        go false t false eu ih = on eu (stops-not key s (eqb-false s p t) ∙ eu) ih
+        go false t false eu ih = on eu (ends-not key s (eqb-false s p t) ∙ eu) ih
 
 -- ---- the index with a record more
-hash-small : (m : ℕ) (key : List ℕ) → 0 < m → hashOf m key < m
+hash-low : (m : ℕ) (key : List ℕ) → 0 < m → hashOf m key < m
 unfolding hashOf
-hash-small m key h = mod-lt ((halfAt key 5 * 1640531527 + halfAt key 9 * 1103515245) / 4294967296) h
+hash-low m key h = mod-lt _ h
 
-module _ (m : ℕ) (file : List ℕ) (from n : ℕ) (table : List ℕ) (known : Indexed file from m n table) (room : n + 1 < m) where
-  own : ℕ
-  own = slotFrom m table file from (keyAt file from n) m (hashOf m (keyAt file from n))
+module _ (file : List ℕ) (from n : ℕ) (table : List ℕ) (known : Indexed file from n table) (room : n + 1 < length table) (has : hasKey file from n ≡ true) where
+  abbrev m : ℕ
+  m = length table
 
-  pub own-there : slotFrom m table file from (keyAt file from n) m (hashOf m (keyAt file from n)) < m
-  own-there = slot-there m table file from (keyAt file from n) (hashOf m (keyAt file from n)) (hash-small m (keyAt file from n) (omega arith)) (known .slots) (omega (arith, known .few))
+  abbrev p : ℕ
+  p = slotOf table file from (keyAt file from n)
 
-  module _ (p : ℕ) (ep : p ≡ slotFrom m table file from (keyAt file from n) m (hashOf m (keyAt file from n))) where
-    low : p < m
-    low = omega (arith, own-there)
+  abbrev after′ : List ℕ
+  after′ = set table p (n + 1)
 
-    ends : stops table file from (keyAt file from n) p ≡ true
-    ends = rw ep (slot-stops m table file from (keyAt file from n) m (hashOf m (keyAt file from n)) own-there)
+  low : p < m
+  unfolding slotOf
+  low = slot-there m table file from (keyAt file from n) (hashOf m (keyAt file from n)) (hash-low m (keyAt file from n) (omega arith)) refl (omega (arith, known .few))
 
-    small-more : (s : ℕ) → getD (set table p (n + 1)) s 0 ≤ n + 1
-    small-more s = go (eqb s p) refl
-      where
-        go : (t : Bool) → eqb s p ≡ t → getD (set table p (n + 1)) s 0 ≤ n + 1
-        go true t = rw (eqb-true s p t, at-p m table file from n p (known .slots) low) (omega arith)
-        go false t = rw (not-p m table file from n p (known .slots) low s (eqb-false s p t)) (omega (arith, known .small s))
+  ended : ends table file from (keyAt file from n) p ≡ true
+  unfolding slotOf
+  ended = slot-ends m table file from (keyAt file from n) m (hashOf m (keyAt file from n)) low
 
-    finds-more : (key : List ℕ) → getD (set table p (n + 1)) (slotFrom m (set table p (n + 1)) file from key m (hashOf m key)) 0 ≡ seek file from key (n + 1)
-    finds-more key = go (sameBytes (keyAt file from n) key) refl
-      where
-        quiet : seek file from key (n + 1) ≡ 0 → (s : ℕ) → stops (set table p (n + 1)) file from key s ≡ true → getD (set table p (n + 1)) s 0 ≡ 0
-        quiet z s st = by (eqb (getD (set table p (n + 1)) s 0) 0) refl
-          where
-            by : (t : Bool) → eqb (getD (set table p (n + 1)) s 0) 0 ≡ t → getD (set table p (n + 1)) s 0 ≡ 0
-            by true t = eqb-true (getD (set table p (n + 1)) s 0) 0 t
-            by false t =
-                let busy = eqb-false (getD (set table p (n + 1)) s 0) 0 t in
-                absurd (clash (rw t at st) (seek-none file from key (n + 1) z (getD (set table p (n + 1)) s 0 - 1) (omega (arith, small-more s))))
+  small-more : (s : ℕ) → namedAt after′ file from s ≤ n + 1
+  small-more s = go (eqb s p) refl
+    where
+      go : (t : Bool) → eqb s p ≡ t → namedAt after′ file from s ≤ n + 1
+      go true t = rw (eqb-true s p t, at-p m table file from n p refl low has) (omega arith)
+      go false t = rw (not-p m table file from n p refl low has s (eqb-false s p t)) (omega (arith, known .small s))
 
-        go : (t : Bool) → sameBytes (keyAt file from n) key ≡ t → getD (set table p (n + 1)) (slotFrom m (set table p (n + 1)) file from key m (hashOf m key)) 0 ≡ seek file from key (n + 1)
-        go true t =
-            let one : keyAt file from n ≡ key = same-exactly (keyAt file from n) key .0 t in
-            rw (seek-down file from key n, t, ← one, own-slot m table file from n p (known .slots) low m (hashOf m (keyAt file from n)) (sym ep), at-p m table file from n p (known .slots) low)
-            (add-one n)
-        go false t = by (eqb (seek file from key n) 0) refl
-          where
-            same : seek file from key (n + 1) ≡ seek file from key n
-            same = seek-down file from key n ∙ rw t
+  finds-more : (key : List ℕ) → namedAt after′ file from (slotFrom m after′ file from key m (hashOf m key)) ≡ seek file from key (n + 1)
+  unfolding found slotOf
+  finds-more key = go (sameBytes (keyAt file from n) key) refl
+    where
+      quiet : seek file from key (n + 1) ≡ 0 → (s : ℕ) → ends after′ file from key s ≡ true → namedAt after′ file from s ≡ 0
+      quiet z s st = by (eqb (namedAt after′ file from s) 0) refl
+        where
+          by : (t : Bool) → eqb (namedAt after′ file from s) 0 ≡ t → namedAt after′ file from s ≡ 0
+          by true t = eqb-true (namedAt after′ file from s) 0 t
+          by false t =
+              let busy = eqb-false (namedAt after′ file from s) 0 t in
+              absurd (clash (rw t at st) (seek-none file from key (n + 1) z (namedAt after′ file from s - 1) (omega (arith, small-more s))))
 
-            by : (u : Bool) → eqb (seek file from key n) 0 ≡ u → getD (set table p (n + 1)) (slotFrom m (set table p (n + 1)) file from key m (hashOf m key)) 0 ≡ seek file from key (n + 1)
-            by true u =
-                let z : seek file from key (n + 1) ≡ 0 = same ∙ eqb-true (seek file from key n) 0 u in
-                slot-quiet m (set table p (n + 1)) file from key (quiet z) (length-set table p (n + 1) ∙ known .slots) m (hashOf m key) ∙ sym z
-            by false u =
-                let busy = eqb-false (seek file from key n) 0 u in
-                other-slot m table file from n p (known .slots) low key ends t (seek file from key n) (omega arith) m (hashOf m key) (known .finds key) ∙ sym same
+      go : (t : Bool) → sameBytes (keyAt file from n) key ≡ t → namedAt after′ file from (slotFrom m after′ file from key m (hashOf m key)) ≡ seek file from key (n + 1)
+      go true t =
+          let one : keyAt file from n ≡ key = same-exactly (keyAt file from n) key .0 t in
+          rw (seek-down file from key n, t, ← one, own-slot m table file from n p refl low has m (hashOf m (keyAt file from n)) refl, at-p m table file from n p refl low has)
+          (add-one n)
+      go false t = by (eqb (seek file from key n) 0) refl
+        where
+          same : seek file from key (n + 1) ≡ seek file from key n
+          same = seek-down file from key n ∙ rw t
 
-    pub indexed-more : Indexed file from m (n + 1) (set table p (n + 1))
-    indexed-more =
-        record {
-          slots = length-set table p (n + 1) ∙ known .slots;
-          small = small-more;
-          few = omega (arith, taken-set table p (n + 1), known .few);
-          finds = finds-more;
-        }
+          by : (u : Bool) → eqb (seek file from key n) 0 ≡ u → namedAt after′ file from (slotFrom m after′ file from key m (hashOf m key)) ≡ seek file from key (n + 1)
+          by true u =
+              let z : seek file from key (n + 1) ≡ 0 = same ∙ eqb-true (seek file from key n) 0 u in
+              slot-quiet m after′ file from key (quiet z) (length-set table p (n + 1)) m (hashOf m key) ∙ sym z
+          by false u =
+              let busy = eqb-false (seek file from key n) 0 u in
+              other-slot m table file from n p refl low has key ended t (seek file from key n) (omega arith) m (hashOf m key) (known .finds key) ∙ sym same
+
+  set-more : Indexed file from (n + 1) after′
+  unfolding found slotOf
+  set-more =
+      record {
+        small = small-more;
+        few = omega (arith, taken-set table p (n + 1), known .few);
+        finds = λ key. rw (length-set table p (n + 1)) (finds-more key);
+      }
+
+pub indexed-more : IndexedMore
+unfolding noting
+indexed-more file from n table known room fits has = rw (has, lt-ltb n 65535 fits) (set-more file from n table known room has)
 
 -- ---- no record yet
-pub indexed-none : (file : List ℕ) (from m : ℕ) → Indexed file from m 0 (replicate m 0)
-unfolding seek
+pub indexed-none : IndexedNone
+unfolding seek found
 indexed-none file from m =
     record {
-      slots = length-replicate {A = ℕ} m 0;
-      small = λ s. omega (arith, none-at m s);
+      small = λ s. rw (none-at m s) (omega (arith, named-zero file from));
       few = omega (arith, taken-none m);
-      finds = λ key. none-at m (slotFrom m (replicate m 0) file from key m (hashOf m key));
+      finds = λ key. rw (none-at m (slotOf (replicate m 0) file from key)) (named-zero file from);
     }
+
+-- ---- a table kept from the first record on
+pub length-noting : (table file : List ℕ) (from n : ℕ) → length (noting table file from n) ≡ length table
+unfolding noting
+length-noting table file from n = go (hasKey file from n && ltb n 65535)
+  where
+    go : (t : Bool) → length (cond t (set table (slotOf table file from (keyAt file from n)) (n + 1)) table) ≡ length table
+    go true = length-set table (slotOf table file from (keyAt file from n)) (n + 1)
+    go false = refl
+
+length-kept : (file : List ℕ) (from m n : ℕ) → length (kept file from m n) ≡ m
+unfolding kept
+length-kept file from m zero = length-replicate {A = ℕ} m 0
+length-kept file from m (suc n) = length-noting (kept file from m n) file from n ∙ length-kept file from m n
+
+indexed-kept : (file : List ℕ) (from m n : ℕ) → n < m → n ≤ 65535 → ((i : ℕ) → i < n → hasKey file from i ≡ true) → Indexed file from n (kept file from m n)
+unfolding kept
+indexed-kept file from m zero l f each = indexed-none file from m
+indexed-kept file from m (suc n) l f each =
+    let before = indexed-kept file from m n (omega arith) (omega arith) (λ i h. each i (omega arith)) in
+    let more = indexed-more file from n (kept file from m n) before (omega (arith, length-kept file from m n)) (omega arith) (each n (omega arith)) in
+    subst (λ (k : ℕ). Indexed file from k (noting (kept file from m n) file from n)) (add-one n) more
+
+pub kept-finds : KeptFinds
+kept-finds file from m n l f each key = indexed-kept file from m n l f each .finds key

@@ -1,1 +1,3 @@
 pub mod Index
+pub mod Laws
+pub mod Examples

@@ -1,55 +1,75 @@
-// An index of a file's records by 13 bytes of each: the place of the last record with a key, found in a lent table that has more slots than there are records.
+// An index of a file's records by 13 bytes of each: the place of the last record with a key. A caller lends the table that they are noted in.
+// With more slots than records, and the table 0 at first, `find` misses none: `KeptFinds`.
 ghost use mathlib.Core.Path.{_≡_};
-ghost use Prim.Native.Nat.{_+_, _*_, _≤_, _<_};
+ghost use Prim.Native.Nat.{_≤_, _<_};
 ghost use lib.ListN.{length};
-ghost use Rattle.index.specs.Index.{keyAt, seek, halfAt, hashOf, next, slotFrom, Indexed, Keyed};
+ghost use Rattle.text.specs.Promises.{Gives};
+ghost use Rattle.index.specs.Index.{hasKey, named, hashOf, next, slotOf, found, Put};
 
-fn wide(b: u8) -> u64
-    ensures { λ r. ⌜ (r ≡ b) × (r < 256) ⌝ }
+// Whether record i has its key within its 401 bytes, and in the file.
+fn has_key(file: &[u8], from: usize, i: usize) -> bool
+    ensures { λ r. ⌜ r ≡ hasKey (now (file .entry)) from i ⌝ }
 {
-    b as u64
+    if from > 388 {
+        return false;
+    }
+    if file.len() < from + 13 {
+        return false;
+    }
+    i <= (file.len() - from - 13) / 401
 }
 
-fn place(t: u16) -> usize
+fn wide(t: u16) -> usize
     ensures { λ r. ⌜ (r ≡ t) × (r < 65536) ⌝ }
 {
     t as usize
 }
 
-// Four bytes as one number, the first the least.
-fn half(s: &[u8], i: usize) -> u64
-    requires { ⌜ i + 4 ≤ length (now s) ⌝ }
-    ensures { λ r. ⌜ (r ≡ halfAt (now (s .entry)) i) × (r < 4294967296) ⌝ }
+// What a slot is taken for: one more than the place of a record that has its key, or 0.
+fn named(file: &[u8], from: usize, slot: u16) -> usize
+    ensures { λ r. ⌜ (r ≡ named (now (file .entry)) from slot) × (r < 65536) ⌝ }
 {
-    wide(s[i]) + wide(s[i + 1]) * 256 + wide(s[i + 2]) * 65536 + wide(s[i + 3]) * 16_777_216
+    let t = wide(slot);
+    if t == 0 {
+        return 0;
+    }
+    if has_key(file, from, t - 1) { t } else { 0 }
 }
 
+// The slot where a walk begins. Odd factors, and bits from the middle of the sum, spread identifiers whose numbers go in steps.
 fn hash(key: &[u8], m: usize) -> usize
     requires { ⌜ (length (now key) ≡ 13) × (0 < m) ⌝ }
     ensures { λ r. ⌜ (r ≡ hashOf m (now (key .entry))) × (r < m) ⌝ }
 {
-    let mixed = half(key, 5) * 1_640_531_527 + half(key, 9) * 1_103_515_245;
-    (mixed / 4_294_967_296) as usize % m
+    let front = text::word(&key[1..]) % 0x1_0000_0000;
+    let w = text::word(&key[5..]);
+    let mixed = front * 0x5bd1_e995
+        + w % 0x1_0000_0000 * 0x61c8_8647
+        + w / 0x1_0000_0000 * 0x41c6_4e6d;
+    (mixed / 0x1000_0000) as usize % m
 }
 
 // The slot behind s, of m.
-fn behind(s: usize, m: usize) -> usize
+fn next(s: usize, m: usize) -> usize
     requires { ⌜ s < m ⌝ }
     ensures { λ r. ⌜ (r ≡ next m s) × (r < m) ⌝ }
 {
     if s + 1 < m { s + 1 } else { 0 }
 }
 
-// The slot where the search for a key ends; as many as there are slots where it ends at none.
-fn slot_of(table: &[u16], file: &[u8], from: usize, n: usize, key: &[u8]) -> usize
-    requires { ⌜ Indexed (now file) from (length (now table)) n (now table) × Keyed (now file) from n × (length (now key) ≡ 13) × (0 < length (now table)) ⌝ }
-    ensures { λ r. ⌜ (r ≡ slotFrom (length (now (table .entry))) (now (table .entry)) (now (file .entry)) from (now (key .entry)) (length (now (table .entry))) (hashOf (length (now (table .entry))) (now (key .entry)))) × (r ≤ length (now (table .entry))) ⌝ }
+// The slot where the walk for a key ends; as many as there are slots where it ends at none.
+fn slot_of(table: &[u16], file: &[u8], from: usize, key: &[u8]) -> usize
+    requires { ⌜ length (now key) ≡ 13 ⌝ }
+    ensures { λ r. ⌜ (r ≡ slotOf (now (table .entry)) (now (file .entry)) from (now (key .entry))) × (r ≤ length (now (table .entry))) ⌝ }
 {
     let m = table.len();
+    if m == 0 {
+        return 0;
+    }
     let mut s = hash(key, m);
     let mut left = m;
     while 0 < left {
-        let t = place(table[s]);
+        let t = named(file, from, table[s]);
         if t == 0 {
             return s;
         }
@@ -58,33 +78,43 @@ fn slot_of(table: &[u16], file: &[u8], from: usize, n: usize, key: &[u8]) -> usi
         if ident::same(&file[a..e], key) {
             return s;
         }
-        s = behind(s, m);
+        s = next(s, m);
         left -= 1;
     }
     m
 }
 
-// One more than the place of the last of n records with this key; 0 where none has it.
-pub fn find(table: &[u16], file: &[u8], from: usize, n: usize, key: &[u8]) -> usize
-    requires { ⌜ Indexed (now file) from (length (now table)) n (now table) × Keyed (now file) from n × (length (now key) ≡ 13) × (0 < length (now table)) ⌝ }
-    ensures { λ r. ⌜ (r ≡ seek (now (file .entry)) from (now (key .entry)) n) × (r ≤ n) ⌝ }
+// One more than the place of the record that the walk for this key finds; 0 where it finds none.
+pub fn find(table: &[u16], file: &[u8], from: usize, key: &[u8]) -> usize
+    ensures { λ r. ⌜ Gives (found (now (table .entry)) (now (file .entry)) from (now (key .entry))) r ⌝ }
 {
-    let s = slot_of(table, file, from, n, key);
+    if key.len() != 13 {
+        return 0;
+    }
+    let s = slot_of(table, file, from, key);
     if s == table.len() {
         return 0;
     }
-    place(table[s])
+    named(file, from, table[s])
 }
 
 // Notes record n, and gives what `find` would have given for its key before.
 pub fn put(table: &mut [u16], file: &[u8], from: usize, n: usize) -> usize
-    requires { ⌜ Indexed (now file) from (length (now table)) n (now table) × Keyed (now file) from (n + 1) × (n + 1 < length (now table)) ⌝ }
-    ensures { λ r. ⌜ (r ≡ seek (now (file .entry)) from (keyAt (now (file .entry)) from n) n) × (r ≤ n) × Indexed (now (file .entry)) from (length (now (table .entry))) (n + 1) (now (table .exit)) ⌝ }
+    ensures { λ r. ⌜ Put (now (table .entry)) (now (file .entry)) from n r (now (table .exit)) ⌝ }
 {
+    if !has_key(file, from, n) {
+        return 0;
+    }
     let a = n * 401 + from;
     let e = a + 13;
-    let s = slot_of(table, file, from, n, &file[a..e]);
-    let before = place(table[s]);
+    let s = slot_of(table, file, from, &file[a..e]);
+    if s == table.len() {
+        return 0;
+    }
+    let before = named(file, from, table[s]);
+    if n >= 65535 {
+        return before;
+    }
     table[s] = (n + 1) as u16;
     before
 }

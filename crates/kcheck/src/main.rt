@@ -1,11 +1,22 @@
 // The checking program: reads a K file from standard input and prints the line of seven numbers that reports on it.
+ghost use Prim.Native.Nat.{_≤_};
+ghost use lib.ListN.{length};
+ghost use Rattle.posting.specs.Report.{inputAnswer, longestLine, WholeLine};
 use libc::STDIN_FILENO;
 use libc::STDOUT_FILENO;
+use posting::Reported;
 
-// The longest line has seven numbers of 20 digits, each with a byte behind it.
+// The line for what was read. There is room for every line, so it is always the whole one.
+fn put_line(input: &[u8], line: &mut [u8]) -> Reported
+    requires { ⌜ longestLine ≤ length (now line) ⌝ }
+    ensures { λ r. ⌜ WholeLine (inputAnswer (now (input .entry))) r (now (line .exit)) ⌝ }
+{
+    posting::report_input(input, line)
+}
+
 fn print_report(input: &[u8]) {
-    let mut line = [0u8; 147];
-    let reported = posting::report_input(input, &mut line);
+    let mut line = [0u8; posting::LONGEST_LINE];
+    let reported = put_line(input, &mut line);
     let n = reported.length;
     if !io::write_all(STDOUT_FILENO, &line[..n]) {
         os::fail(b"kcheck: standard output");

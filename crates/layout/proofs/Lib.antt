@@ -1,3 +1,4 @@
 pub mod Tiling
 pub mod Ways
 pub mod OneOutcome
+pub mod Fields

@@ -5,7 +5,10 @@ use mathlib.Core.Path.{_≡_}
 use mathlib.Core.List.{List}
 use Rattle.text.specs.declared.Answer.{Answer}
 use Rattle.text.proofs.OneOutcome.{gives-once}
-use Rattle.layout.specs.Layout.{Field, FieldAnswered}
+use Rattle.layout.specs.Layout.{Width, Field, FieldAnswered}
+
+pub width-once : (n : ℕ) (r s : ℕ) → Width n r → Width n s → r ≡ s
+width-once n r s = gives-once _ r s
 
 pub field-once : (rec : List ℕ) (n : ℕ) (f g : List ℕ) → Field rec n f → Field rec n g → f ≡ g
 field-once rec n f g = gives-once _ f g

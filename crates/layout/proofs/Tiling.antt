@@ -7,7 +7,8 @@ use native.Mathlib.Nat.{zero-add}
 use native.Mathlib.Omega.{arith}
 use lib.ListN.{length, getD, drop, take-append-drop, length-drop}
 use lib.Seq.{drop-drop, length-take-le}
-use Rattle.layout.specs.Widths.{sum, start, cut, cuts, joined, startsFrom}
+use Rattle.text.specs.Lists.{sum, joined}
+use Rattle.layout.specs.Widths.{start, cut, cuts, startsFrom}
 
 -- a field lies within the whole
 pub field-within : (ws : List ℕ) (k : ℕ) → k < length ws → start ws k + getD ws k 0 ≤ sum ws

@@ -1,18 +1,30 @@
 -- Each way out of the functions, from the facts that are known there.
 -- Assumes nothing.
-use Prim.Native.Nat.{ℕ, _+_, _-_, _≤_}
-use mathlib.Core.Path.{_≡_, sym, _∙_}
+use Prim.Native.Nat.{ℕ, zero, suc, _+_, _-_, _≤_, _<_}
+use mathlib.Core.Path.{_≡_, refl, sym, _∙_}
 use mathlib.Core.Bool.{Bool, true, false, _&&_, and-eq-true-iff}
-use mathlib.Core.List.{List, []}
+use mathlib.Core.List.{List, [], _∷_}
 use native.Mathlib.Nat.{add-sub-cancel-left}
 use native.Mathlib.Omega.{arith}
 use borrow.Author.Tests.{eq-eqb, ne-eqb, leb-true, eqb-true}
 use lib.Dec.{eqb, leb}
-use lib.ListN.{length, getD, take, drop}
+use lib.ListN.{length, getD, take, drop, List·getD-eq-default}
 use Rattle.text.specs.Answers.{answer, accepted}
 use Rattle.layout.specs.Widths.{cut}
-use Rattle.layout.specs.Layout.{widths, starts, isField, fieldOf, fieldAnswer, Field, FieldAnswered}
+use Rattle.layout.specs.Layout.{widths, starts, widthOf, isField, fieldOf, fieldAnswer, Field, FieldAnswered}
 use Rattle.layout.proofs.Tiling.{field-within, starts-nth}
+
+-- ---- width
+pub no-width : (n : ℕ) → n < 1 → 0 ≡ widthOf n
+no-width zero h = refl
+no-width (suc n) h = absurd (omega arith)
+
+pub no-width-behind : (n : ℕ) → 26 < n → 0 ≡ widthOf n
+no-width-behind n h = sym (List·getD-eq-default (0 ∷ widths) 0 {n = n} (omega arith))
+
+pub width-there : (n : ℕ) → 1 ≤ n → getD widths (n - 1) 0 ≡ widthOf n
+width-there zero h = absurd (omega arith)
+width-there (suc n) h = let back : suc n - 1 ≡ n = omega arith in rw back
 
 -- ---- cut_out
 module _ (rec : List ℕ) (n : ℕ) (pre : (length rec ≡ 399) × (1 ≤ n) × (n ≤ 26)) where

@@ -1,14 +1,15 @@
 -- "The record, 399 bytes": its 26 widths, and the field that is asked for.
 -- Assumes nothing.
 use Prim.Native.Nat.{ℕ, _-_}
-use mathlib.Core.Bool.{Bool, _&&_, cond}
+use mathlib.Core.Bool.{Bool, true, _&&_, cond}
 use mathlib.Core.Path.{_≡_, refl}
 use mathlib.Core.List.{List, [], _∷_}
-use lib.ListN.{length}
+use lib.ListN.{length, getD}
 use lib.Dec.{leb, eqb}
 use Rattle.text.specs.declared.Answer.{Answer}
-use Rattle.text.specs.Answers.{answer, accepted}
-use Rattle.layout.specs.Widths.{sum, startsFrom, cut}
+use Rattle.text.specs.Answers.{answer, accepted, wrongLength}
+use Rattle.text.specs.Lists.{sum, joined}
+use Rattle.layout.specs.Widths.{startsFrom, cut}
 
 abbrev pub widths : List ℕ
 widths =
@@ -20,13 +21,13 @@ whole = refl
 pub how-many : length widths ≡ 26
 how-many = refl
 
--- where the fields start
+-- where the fields start: each behind the widths before it
 abbrev pub starts : List ℕ
-starts =
-    0 ∷ 13 ∷ 21 ∷ 29 ∷ 59 ∷ 64 ∷ 66 ∷ 106 ∷ 146 ∷ 186 ∷ 192 ∷ 198 ∷ 218 ∷ 268 ∷ 280 ∷ 286 ∷ 298 ∷ 310 ∷ 340 ∷ 342 ∷ 352 ∷ 362 ∷ 375 ∷ 377 ∷ 379 ∷ 389 ∷ []
+starts = startsFrom 0 widths
 
-pub starts-are : starts ≡ startsFrom 0 widths
-starts-are = refl
+-- how wide field n is, counted from 1; 0 where there is no such field
+abbrev pub widthOf : ℕ → ℕ
+widthOf n = getD (0 ∷ widths) n 0
 
 -- there is a field n
 abbrev pub isField : ℕ → Bool
@@ -37,9 +38,19 @@ unfoldable pub fieldOf : List ℕ → ℕ → List ℕ
 fieldOf rec n = cond (eqb (length rec) 399 && isField n) (cut widths rec (n - 1)) []
 
 unfoldable pub fieldAnswer : List ℕ → ℕ → Answer
-fieldAnswer rec n = cond (eqb (length rec) 399) (cond (isField n) accepted (answer 210 0)) (answer 236 0)
+fieldAnswer rec n = cond (eqb (length rec) 399) (cond (isField n) accepted (answer 210 0)) wrongLength
+
+-- the bytes of a record are its 26 fields, joined
+pub record TiledByFields (rec : List ℕ) : Type 0 where
+  pub fields : List (List ℕ)
+  pub many : length fields ≡ 26
+  pub each : (n : ℕ) → isField n ≡ true → getD fields (n - 1) [] ≡ fieldOf rec n
+  pub joins : joined fields ≡ rec
 
 -- ---- what the public calls promise
+abbrev pub Width : ℕ → ℕ → Type 0
+Width n r = r ≡ widthOf n
+
 abbrev pub Field : List ℕ → ℕ → List ℕ → Type 0
 Field rec n f = f ≡ fieldOf rec n
 

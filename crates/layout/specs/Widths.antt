@@ -1,12 +1,9 @@
 -- A record laid out by a list of widths, over any such list: its fields from the front, counted from 0.
 -- Assumes nothing.
 use Prim.Native.Nat.{ℕ, _+_}
-use mathlib.Core.List.{List, [], _∷_, _++_}
+use mathlib.Core.List.{List, [], _∷_}
 use lib.ListN.{getD, take, drop}
-
-abbrev pub sum : List ℕ → ℕ
-sum [] = 0
-sum (w ∷ ws) = w + sum ws
+use Rattle.text.specs.Lists.{sum}
 
 -- field k starts behind the k fields before it
 abbrev pub start : List ℕ → ℕ → ℕ
@@ -19,10 +16,6 @@ cut ws rec k = take (getD ws k 0) (drop (start ws k) rec)
 abbrev pub cuts : {A : Type 0} → List ℕ → List A → List (List A)
 cuts [] rec = []
 cuts (w ∷ ws) rec = take w rec ∷ cuts ws (drop w rec)
-
-abbrev pub joined : {A : Type 0} → List (List A) → List A
-joined [] = []
-joined (f ∷ fs) = f ++ joined fs
 
 -- where each field starts, as a list, the first at a
 abbrev pub startsFrom : ℕ → List ℕ → List ℕ

@@ -3,8 +3,10 @@ ghost use mathlib.Core.Path.{_≡_};
 ghost use Prim.Native.Nat.{_-_, _≤_};
 ghost use lib.ListN.{length};
 ghost use Rattle.layout.specs.Widths.{cut};
-ghost use Rattle.layout.specs.Layout.{widths, isField, Field, FieldAnswered};
+ghost use Rattle.layout.specs.Layout.{widths, isField, Width, Field, FieldAnswered};
+use text::ACCEPTED;
 use text::Answer;
+use text::WRONG_LENGTH;
 
 // The widths of the 26 fields, 399 bytes together.
 pub const WIDTHS: [usize; 26] = [
@@ -36,7 +38,7 @@ pub const WIDTHS: [usize; 26] = [
     10,
 ];
 
-// Where each field starts: the sum of the widths before it.
+// Where each field starts: behind the widths before it.
 const STARTS: [usize; 26] = [
     0,
     13,
@@ -66,10 +68,30 @@ const STARTS: [usize; 26] = [
     389,
 ];
 
+// There is no such field.
+const NO_FIELD: Answer = Answer {
+    code: 210,
+    place: 0,
+};
+
 fn is_field(n: usize) -> bool
     ensures { λ r. ⌜ r ≡ isField n ⌝ }
 {
     (1 <= n) & (n <= 26)
+}
+
+// How wide field n is; 0 where there is no such field.
+pub fn width(n: usize) -> usize
+    ensures { λ r. ⌜ Width n r ⌝ }
+{
+    if n < 1 {
+        return 0;
+    }
+    if n > 26 {
+        return 0;
+    }
+    let k = n - 1;
+    WIDTHS[k]
 }
 
 fn cut_out(rec: &[u8], n: usize) -> &[u8]
@@ -94,17 +116,7 @@ pub fn field_answer(rec: &[u8], n: usize) -> Answer
     ensures { λ r. ⌜ FieldAnswered (now (rec .entry)) n r ⌝ }
 {
     if rec.len() != 399 {
-        return Answer {
-            code: 236,
-            place: 0,
-        };
+        return WRONG_LENGTH;
     }
-    if is_field(n) {
-        Answer { code: 0, place: 0 }
-    } else {
-        Answer {
-            code: 210,
-            place: 0,
-        }
-    }
+    if is_field(n) { ACCEPTED } else { NO_FIELD }
 }

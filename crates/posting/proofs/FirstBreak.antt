@@ -12,8 +12,9 @@ use lib.Dec.{eqb, leb}
 use lib.ListN.{length}
 use Rattle.posting.specs.declared.FileAnswer.{FileAnswer}
 use Rattle.posting.specs.File.{lineAnswer, totalsOver, refused, passed, breakFrom, recordsIn, fileAnswer}
+use Rattle.posting.specs.Outcomes.{FileOutcome, no-multiple, too-many, first-break, no-break, AllRight}
 use Rattle.posting.proofs.Ways.{Unbroken, unbroken-start, file-odd, file-long, file-breaks, file-on, file-passes}
-use Rattle.posting.proofs.Lines.{RightLine, line-right-exactly}
+use Rattle.posting.proofs.Lines.{line-right-exactly}
 
 -- the records from a up to b, without b, break no rule
 abbrev pub RightFrom : List ℕ → ℕ → ℕ → Type 0
@@ -44,15 +45,6 @@ found file good (suc n) i = go (eqb (lineAnswer file i .code) 0) refl (found fil
     go false e f = first i (omega arith) (omega arith) (λ j l h. absurd (omega arith)) (eqb-false _ 0 e) refl
 
 -- ---- the whole file
-pub data FileOutcome (file : List ℕ) (a : FileAnswer) : Type 0 where
-  no-multiple : (length file % 401 ≡ 0 → ⊥) → a ≡ refused 211 0 0 → FileOutcome file a
-  too-many : length file % 401 ≡ 0 → 999 < recordsIn file → a ≡ refused 213 0 0 → FileOutcome file a
-  first-break : length file % 401 ≡ 0 → recordsIn file ≤ 999 → (i : ℕ) → i < recordsIn file
-      → ((j : ℕ) → j < i → lineAnswer file j .code ≡ 0) → (lineAnswer file i .code ≡ 0 → ⊥)
-      → a ≡ refused (lineAnswer file i .code) (i + 1) (lineAnswer file i .place) → FileOutcome file a
-  no-break : length file % 401 ≡ 0 → recordsIn file ≤ 999 → ((i : ℕ) → i < recordsIn file → lineAnswer file i .code ≡ 0)
-      → a ≡ passed (totalsOver file (recordsIn file)) → FileOutcome file a
-
 pub file-outcome : (file : List ℕ) → FileOutcome file (fileAnswer file)
 unfolding fileAnswer
 file-outcome file = go (eqb (length file % 401) 0) refl (leb (recordsIn file) 999) refl (found file _ (recordsIn file) 0)
@@ -81,11 +73,6 @@ outcome-exactly file a = (only, λ e. rw e (file-outcome file))
     only (no-break m l b e) = e ∙ file-passes file m l (recordsIn file) _ (omega arith) (omega arith) (unbroken-to file m l (recordsIn file) (omega arith) b) refl
 
 -- ---- code 0 exactly if all rules are kept
-pub record AllRight (file : List ℕ) : Type 0 where
-  pub multiple : length file % 401 ≡ 0
-  pub few : recordsIn file ≤ 999
-  pub lines : (i : ℕ) → i < recordsIn file → RightLine file i
-
 pub accepted-exactly : (file : List ℕ) → (fileAnswer file .code ≡ 0) ↔ AllRight file
 accepted-exactly file = go (file-outcome file)
   where

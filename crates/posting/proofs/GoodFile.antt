@@ -1,41 +1,41 @@
--- A file that is accepted: its records, each with its line end, are the file; each record keeps the table; every record is counted as live or as cancelled,
--- its amounts are well-formed, and the answer has the totals over them.
+-- An accepted file is a good one: its records, each with its line end, are the file; each breaks no rule, no two have the same identifier, and the answer
+-- has the totals over them. And a file that is made of such records is accepted.
 -- Assumes nothing.
 use Prim.Native.Nat.{ℕ, zero, suc, _+_, _*_, _<_}
 use mathlib.Core.Path.{_≡_, refl, sym, ap, _∙_}
 use mathlib.Core.Bool.{Bool, true, false, cond}
-use mathlib.Core.List.{List, [], _∷_, _++_, map}
+use mathlib.Core.List.{List, [], _∷_, _++_, map, append-nil}
+use mathlib.Core.Logic.{_↔_}
 use native.Mathlib.Omega.{arith}
-use lib.ListN.{length, length-append}
+use lib.ListN.{length, getD, length-append}
 use Rattle.text.proofs.Booleans.{clash}
-use Rattle.layout.specs.Widths.{joined}
+use Rattle.text.specs.Lists.{joined}
 use Rattle.layout.specs.Layout.{fieldOf}
-use Rattle.fields.specs.declared.MoneyReading.the-variants as Money
-use Rattle.fields.specs.declared.StatusReading.{StatusReading}
-use Rattle.fields.specs.declared.StatusReading.the-variants as Status
-use Rattle.fields.specs.Amounts.{readMoney}
+use Rattle.fields.specs.declared.others.StatusReading.{StatusReading}
+use Rattle.fields.specs.declared.others.StatusReading.the-variants as Status
 use Rattle.fields.specs.Others.{readStatus}
-use Rattle.record.specs.Readings.{badMoney, badStatus}
+use Rattle.fields.specs.Amounts.{malformedMoney}
+use Rattle.record.specs.Readings.{malformedStatus}
 use Rattle.record.specs.Rules.{table}
-use Rattle.record.proofs.Order.{noneBroken, accepted-exactly as record-accepted-exactly}
+use Rattle.record.specs.Outcomes.{noneBroken}
+use Rattle.record.proofs.Order.{accepted-exactly as record-accepted-exactly}
 use Rattle.record.proofs.Status.{none-malformed}
-use Rattle.posting.specs.File.{lineOf, recordAt, passed, totalsOver, recordsIn, fileAnswer}
-use Rattle.posting.proofs.Lines.{line-right-exactly}
-use Rattle.posting.proofs.FirstBreak.{AllRight, no-break, outcome-exactly, accepted-exactly}
+use Rattle.posting.specs.declared.FileAnswer.{FileAnswer}
+use Rattle.posting.specs.File.{lineOf, recordAt, idAt, lineAnswer, passed, totalsOver, recordsIn, fileAnswer}
+use Rattle.posting.specs.Outcomes.{RightLine, no-break, AllRight}
+use Rattle.posting.specs.Records.{upTo, lineAt, lines, records, linesOf, Readable, GoodFile, GoodRecords, MadeOfGood}
 use Rattle.posting.specs.Sums.{kept, isLive, isCancelled, live, cancelled, totalsOf}
-use Rattle.posting.proofs.RecordList.{upTo, kept-last, lineAt, lines, records, totals-are-sums, record-wide, line-is, records-tile}
+use Rattle.posting.proofs.Lines.{line-right-exactly}
+use Rattle.posting.proofs.FirstBreak.{outcome-exactly, accepted-exactly}
+use Rattle.posting.proofs.RecordList.{kept-last, length-upTo, upTo-nth, totals-are-sums, record-wide, id-is, line-is, records-tile}
+use Rattle.posting.proofs.PrintedLines.{all-lines-long, record-there, id-there, ended-there, totals-there}
 
 -- ---- what the totals read of a record that keeps the table is well-formed
-pub record Readable (rec : List ℕ) : Type 0 where
-  pub status : readStatus (fieldOf rec 19) ≡ Status.Malformed → ⊥
-  pub cash : readMoney (fieldOf rec 16) ≡ Money.Malformed → ⊥
-  pub price : readMoney (fieldOf rec 17) ≡ Money.Malformed → ⊥
-
 pub readable : (rec : List ℕ) → noneBroken (table false rec) ≡ true → Readable rec
 readable rec h = record {
-  status = λ e. clash (ap (badStatus false) e) (none-malformed false rec h 17);
-  cash = λ e. clash (ap badMoney e) (none-malformed false rec h 14);
-  price = λ e. clash (ap badMoney e) (none-malformed false rec h 15);
+  status = λ e. clash (ap (malformedStatus false) e) (none-malformed false rec h 17);
+  cash = λ e. clash (ap malformedMoney e) (none-malformed false rec h 14);
+  price = λ e. clash (ap malformedMoney e) (none-malformed false rec h 15);
 }
 
 -- ---- rows that are alike
@@ -67,15 +67,7 @@ each-counted f (suc n) h =
     go l c Status.Cancelled m e = simp length-append (omega arith)
     go l c Status.Malformed m e = absurd (m refl)
 
--- ---- the whole file
-pub record GoodFile (file : List ℕ) (n : ℕ) : Type 0 where
-  pub bytes : file ≡ joined (map lineOf (records file n))
-  pub wide : (i : ℕ) → i < n → length (recordAt file i) ≡ 399
-  pub keeps : (i : ℕ) → i < n → noneBroken (table false (recordAt file i)) ≡ true
-  pub reads : (i : ℕ) → i < n → Readable (recordAt file i)
-  pub counts : length (live (records file n)) + length (cancelled (records file n)) ≡ n
-  pub answers : fileAnswer file ≡ passed (totalsOf (records file n))
-
+-- ---- a file that is accepted
 module _ (file : List ℕ) (z : fileAnswer file .code ≡ 0) where
   all-right : AllRight file
   all-right = accepted-exactly file .0 z
@@ -107,7 +99,55 @@ module _ (file : List ℕ) (z : fileAnswer file .code ≡ 0) where
     bytes = sym (ap joined ends ∙ records-tile file (recordsIn file) whole .together);
     wide = wide-there;
     keeps = keeps-there;
+    apart = λ i j h l e. all-right .lines j l .fresh i h e;
     reads = λ i h. readable (recordAt file i) (keeps-there i h);
     counts = each-counted (recordAt file) (recordsIn file) (λ i h. readable (recordAt file i) (keeps-there i h) .status);
     answers = passes ∙ ap passed (totals-are-sums file (recordsIn file));
   }
+
+-- ---- records that make a good file
+module _ (recs : List (List ℕ)) (g : GoodRecords recs) where
+  -- the file, with nothing behind it
+  abbrev whole-file : List ℕ
+  whole-file = linesOf recs ++ []
+
+  right-there : (i : ℕ) → i < length recs → RightLine whole-file i
+  right-there i h = record {
+    ended = ended-there recs [] i (g .wide) h;
+    table = rw (record-there recs [] i (g .wide) h) (record-accepted-exactly false (getD recs i []) (g .wide i h) .1 (g .keeps i h));
+    fresh = λ j l e. g .apart j i l h (sym (id-there recs [] j (g .wide) (omega arith)) ∙ e ∙ id-there recs [] i (g .wide) h);
+  }
+
+  pub file-passes : fileAnswer (linesOf recs) ≡ passed (totalsOf recs)
+  file-passes =
+      let long : length whole-file ≡ length recs * 401 = omega (arith, length-append (linesOf recs) [], all-lines-long recs (g .wide)) in
+      let many : recordsIn whole-file ≡ length recs = omega arith in
+      let right : (i : ℕ) → i < recordsIn whole-file → lineAnswer whole-file i .code ≡ 0 = λ i h. line-right-exactly whole-file i .1 (right-there i (omega arith)) in
+      let counts : totalsOf recs ≡ totalsOver whole-file (recordsIn whole-file) = rw many (sym (totals-there recs [] (g .wide))) in
+      ap fileAnswer (sym (append-nil (linesOf recs)))
+      ∙ sym (outcome-exactly whole-file (passed (totalsOf recs)) .0 (no-break (omega arith) (omega (arith, g .few)) right (ap passed counts)))
+
+-- ---- so a file is accepted exactly if it is made of such records
+pub made-exactly : (file : List ℕ) → (fileAnswer file .code ≡ 0) ↔ MadeOfGood file
+made-exactly file = (made, λ m. ap (λ (f : List ℕ). fileAnswer f .code) (m .bytes) ∙ ap (λ (a : FileAnswer). a .code) (file-passes (m .recs) (m .good)))
+  where
+    n : ℕ
+    n = recordsIn file
+
+    made : fileAnswer file .code ≡ 0 → MadeOfGood file
+    made z =
+        let good = good-file file z in
+        let long : length file ≡ n * 401 = whole file z in
+        let many = length-upTo (recordAt file) n in
+        let nth : (i : ℕ) → i < n → getD (records file n) i [] ≡ recordAt file i = λ i h. upTo-nth (recordAt file) n i [] h in
+        let id : (i : ℕ) → i < n → fieldOf (getD (records file n) i []) 1 ≡ idAt file i = λ i h. ap (λ (r : List ℕ). fieldOf r 1) (nth i h) ∙ sym (id-is file i (omega arith)) in
+        record {
+          recs = records file n;
+          good = record {
+            few = omega (arith, all-right file z .few);
+            wide = λ i h. ap length (nth i (omega arith)) ∙ good .wide i (omega arith);
+            keeps = λ i h. ap (λ (r : List ℕ). noneBroken (table false r)) (nth i (omega arith)) ∙ good .keeps i (omega arith);
+            apart = λ i j l h e. good .apart i j l (omega arith) (sym (id i (omega arith)) ∙ e ∙ id j (omega arith));
+          };
+          bytes = good .bytes;
+        }

@@ -7,3 +7,4 @@ pub mod FirstBreak
 pub mod RecordList
 pub mod Codes
 pub mod GoodFile
+pub mod PrintedLines

@@ -1,7 +1,7 @@
 -- The answer to one record of a file, in the paper's words: 212 for a wrong line end, then the record's table, then 2 for an identifier that an earlier
 -- record has; 0 exactly if none of them holds.
 -- Assumes nothing.
-use Prim.Native.Nat.{ℕ, zero, suc, _+_, _*_, _<_}
+use Prim.Native.Nat.{ℕ, zero, suc, _+_, _*_}
 use mathlib.Core.Path.{_≡_, refl, sym, ap, _∙_}
 use mathlib.Core.Bool.{Bool, true, false, cond, _&&_, _||_}
 use mathlib.Core.List.{List}
@@ -11,25 +11,13 @@ use borrow.Author.Tests.{eqb-true, eqb-false, eq-eqb}
 use lib.Dec.{eqb}
 use lib.ListN.{getD}
 use Rattle.text.specs.declared.Answer.{Answer}
-use Rattle.text.specs.Answers.{answer, accepted}
+use Rattle.text.specs.Answers.{answer, accepted, orElse}
 use Rattle.text.specs.Lists.{sameBytes}
 use Rattle.text.proofs.Booleans.{clash}
 use Rattle.text.proofs.Lists.{same-exactly}
-use Rattle.record.specs.Columns.{orElse}
 use Rattle.record.specs.Rules.{recordAnswer}
 use Rattle.posting.specs.File.{recordAt, idAt, lineEnds, repeats, lineAnswer}
-
--- ---- what the rules speak of
--- record i is followed by 0Dh 0Ah
-pub record Ended (file : List ℕ) (i : ℕ) : Type 0 where
-  pub return : getD file (i * 401 + 399) 0 ≡ 13
-  pub feed : getD file (i * 401 + 400) 0 ≡ 10
-
--- one of the first n records has the identifier of record i
-pub record Repeated (file : List ℕ) (i n : ℕ) : Type 0 where
-  pub earlier : ℕ
-  pub before : earlier < n
-  pub same : idAt file earlier ≡ idAt file i
+use Rattle.posting.specs.Outcomes.{Ended, Repeated, LineOutcome, ends-wrong, breaks-table, repeats-earlier, right, RightLine}
 
 -- ---- the tests decide them
 both : (a b : ℕ) (x y : ℕ) → (eqb a x && eqb b y ≡ true) ↔ ((a ≡ x) × (b ≡ y))
@@ -69,12 +57,6 @@ repeats-exactly file i (suc n) = go (sameBytes (idAt file n) (idAt file i)) refl
     )
 
 -- ---- the answer to record i
-pub data LineOutcome (file : List ℕ) (i : ℕ) (a : Answer) : Type 0 where
-  ends-wrong : (Ended file i → ⊥) → a ≡ answer 212 0 → LineOutcome file i a
-  breaks-table : Ended file i → (recordAnswer false (recordAt file i) .code ≡ 0 → ⊥) → a ≡ recordAnswer false (recordAt file i) → LineOutcome file i a
-  repeats-earlier : Ended file i → recordAnswer false (recordAt file i) .code ≡ 0 → Repeated file i i → a ≡ answer 2 1 → LineOutcome file i a
-  right : Ended file i → recordAnswer false (recordAt file i) .code ≡ 0 → (Repeated file i i → ⊥) → a ≡ accepted → LineOutcome file i a
-
 pub line-outcome : (file : List ℕ) (i : ℕ) → LineOutcome file i (lineAnswer file i)
 unfolding lineAnswer orElse
 line-outcome file i = go (lineEnds file i) refl (eqb (recordAnswer false (recordAt file i) .code) 0) refl (repeats file i i) refl
@@ -87,12 +69,6 @@ line-outcome file i = go (lineEnds file i) refl (eqb (recordAnswer false (record
     go true e true f false g = right (ended-exactly file i .0 e) (eqb-true _ 0 f) (λ x. clash (repeats-exactly file i i .1 x) g) refl
 
 -- ---- code 0
--- record i keeps every rule
-pub record RightLine (file : List ℕ) (i : ℕ) : Type 0 where
-  pub ended : Ended file i
-  pub table : recordAnswer false (recordAt file i) .code ≡ 0
-  pub fresh : (j : ℕ) → j < i → idAt file j ≡ idAt file i → ⊥
-
 pub line-right-exactly : (file : List ℕ) (i : ℕ) → (lineAnswer file i .code ≡ 0) ↔ RightLine file i
 line-right-exactly file i = go (line-outcome file i)
   where

@@ -4,26 +4,24 @@ use Prim.Native.Nat.{ℕ, zero, suc, _+_, _*_, _≤_, _<_}
 use mathlib.Core.Path.{_≡_, refl, sym, _∙_}
 use mathlib.Core.Bool.{Bool, true, false, cond}
 use mathlib.Core.List.{List, [], _∷_, _++_, map, append-nil, append-assoc}
+use native.Mathlib.Nat.{add-zero}
 use native.Mathlib.Numerals.{add-one}
 use native.Mathlib.Omega.{arith}
 use borrow.Author.Tests.{eqb-true, eqb-false}
 use lib.Dec.{eqb}
 use lib.ListN.{length, getD, take, drop, length-append, length-drop, List·getD-append}
 use lib.Seq.{take-add, take-all, take-take, drop-drop, drop-cons, getD-at, length-take-le}
-use Rattle.layout.specs.Widths.{sum, joined}
+use Rattle.text.specs.Lists.{sum, joined}
 use Rattle.layout.specs.Layout.{fieldOf}
-use Rattle.fields.specs.declared.StatusReading.{StatusReading}
-use Rattle.fields.specs.declared.StatusReading.the-variants as Status
+use Rattle.fields.specs.declared.others.StatusReading.{StatusReading}
+use Rattle.fields.specs.declared.others.StatusReading.the-variants as Status
 use Rattle.fields.specs.Others.{readStatus}
 use Rattle.posting.specs.declared.Totals.{Totals}
-use Rattle.posting.specs.File.{recordAt, idAt, totals, withStatus, withRecord, totalsOver}
+use Rattle.posting.specs.File.{recordAt, idAt, totals, amountOf, broughtAs, brought, plusTotals, withRecord, totalsOver}
+use Rattle.posting.specs.Records.{upTo, lineAt, lines, records, Tiled}
 use Rattle.posting.specs.Sums.{kept, isLive, isCancelled, live, cancelled, cashIn, priceIn, totalsOf}
 
--- ---- the first n of a row: f 0, f 1, up to f (n - 1)
-unfoldable pub upTo : {A : Type 0} → (ℕ → A) → ℕ → List A
-upTo f zero = []
-upTo f (suc n) = upTo f n ++ f n ∷ []
-
+-- ---- the first n of a row
 pub length-upTo : {A : Type 0} (f : ℕ → A) (n : ℕ) → length (upTo f n) ≡ n
 unfolding upTo
 length-upTo f zero = refl
@@ -41,15 +39,6 @@ upTo-nth f (suc n) i d h = go (eqb i n) refl (upTo-nth f n i d)
         List·getD-append (upTo f n) (f n ∷ []) d i (rw (length-upTo f n) (omega arith)) ∙ ih (omega arith)
 
 -- ---- lines of 401 bytes
-abbrev pub lineAt : List ℕ → ℕ → List ℕ
-lineAt file i = take 401 (drop (i * 401) file)
-
-abbrev pub lines : List ℕ → ℕ → List (List ℕ)
-lines file n = upTo (lineAt file) n
-
-abbrev pub records : List ℕ → ℕ → List (List ℕ)
-records file n = upTo (recordAt file) n
-
 joined-last : (ls : List (List ℕ)) (l : List ℕ) → joined (ls ++ l ∷ []) ≡ joined ls ++ l
 joined-last [] l = append-nil l
 joined-last (x ∷ ls) l = rw (joined-last ls l, append-assoc)
@@ -79,14 +68,6 @@ module _ (file : List ℕ) (i : ℕ) (h : i * 401 + 401 ≤ length file) where
   unfolding fieldOf
   id-is = rw (record-wide, take-take 13 399 (drop (i * 401) file) (omega arith))
 
--- n lines of 401 bytes
-pub record Tiled (file : List ℕ) (n : ℕ) : Type 0 where
-  pub together : joined (lines file n) ≡ file
-  pub many : length (lines file n) ≡ n
-  pub nth : (i : ℕ) → i < n → getD (lines file n) i [] ≡ lineAt file i
-  pub split : (i : ℕ) → i < n → lineAt file i ≡ recordAt file i ++ getD file (i * 401 + 399) 0 ∷ getD file (i * 401 + 400) 0 ∷ []
-  pub wide : (i : ℕ) → i < n → length (recordAt file i) ≡ 399
-
 pub records-tile : (file : List ℕ) (n : ℕ) → length file ≡ n * 401 → Tiled file n
 records-tile file n e = record {
   together = joined-lines file n ∙ take-all (n * 401) file (omega arith);
@@ -112,7 +93,7 @@ sum-last f [] x = omega arith
 sum-last f (y ∷ xs) x = let ih = sum-last f xs x in omega arith
 
 totals-last : (recs : List (List ℕ)) (rec : List ℕ) → totalsOf (recs ++ rec ∷ []) ≡ withRecord (totalsOf recs) rec
-unfolding withRecord
+unfolding brought
 totals-last recs rec =
     rw (kept-last (λ r. isLive (readStatus (fieldOf r 19))) recs rec, kept-last (λ r. isCancelled (readStatus (fieldOf r 19))) recs rec)
     (go (live recs) (cancelled recs) (readStatus (fieldOf rec 19)))
@@ -121,10 +102,10 @@ totals-last recs rec =
     over l c = totals (length l) (length c) (sum (map cashIn l)) (sum (map priceIn l))
 
     go : (l c : List (List ℕ)) (s : StatusReading)
-        → over (l ++ cond (isLive s) (rec ∷ []) []) (c ++ cond (isCancelled s) (rec ∷ []) []) ≡ withStatus (over l c) s (cashIn rec) (priceIn rec)
-    go l c Status.Live = rw (append-nil, length-append, sum-last cashIn l rec, sum-last priceIn l rec)
-    go l c Status.Cancelled = rw (append-nil, length-append)
-    go l c Status.Malformed = rw (append-nil l, append-nil c)
+        → over (l ++ cond (isLive s) (rec ∷ []) []) (c ++ cond (isCancelled s) (rec ∷ []) []) ≡ plusTotals (over l c) (broughtAs s (amountOf rec 16) (amountOf rec 17))
+    go l c Status.Live = rw (append-nil c, length-append, sum-last cashIn l rec, sum-last priceIn l rec, add-zero (length c))
+    go l c Status.Cancelled = rw (append-nil l, length-append, add-zero (length l), add-zero (sum (map cashIn l)), add-zero (sum (map priceIn l)))
+    go l c Status.Malformed = rw (append-nil l, append-nil c, add-zero (length l), add-zero (length c), add-zero (sum (map cashIn l)), add-zero (sum (map priceIn l)))
 
 pub totals-are-sums : (file : List ℕ) (n : ℕ) → totalsOver file n ≡ totalsOf (records file n)
 unfolding totalsOver upTo kept

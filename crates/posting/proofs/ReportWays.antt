@@ -1,17 +1,17 @@
 -- The line of seven numbers: each turn of the loops that count it and put it, and each way out of the calls.
 -- Assumes nothing.
-use Prim.Native.Nat.{ℕ, suc, _+_, _-_, _≤_, _<_}
+use Prim.Native.Nat.{ℕ, zero, suc, _+_, _-_, _*_, _/_, _≤_, _<_}
 use mathlib.Core.Path.{_≡_, refl, sym, ap, _∙_}
-use mathlib.Core.Bool.{Bool, true, false}
+use mathlib.Core.Bool.{Bool, true, false, cond}
 use mathlib.Core.List.{List, [], _∷_, _++_, append-assoc}
 use native.Mathlib.Nat.{add-assoc, add-zero}
 use native.Mathlib.Numerals.{add-one}
 use native.Mathlib.Omega.{arith}
 use borrow.Author.Tests.{lt-ltb, le-ltb, le-leb, lt-leb, leb-true}
 use borrow.Rule.Slice.PartMut.{putMid}
-use lib.Dec.{leb}
-use lib.ListN.{length, getD, take, drop, set, length-append, length-drop, take-append-drop}
-use lib.Seq.{take-at, drop-at, set-split, drop-drop, length-take-le}
+use lib.Dec.{leb, ltb}
+use lib.ListN.{length, getD, take, drop, set, length-append, length-take, length-drop, take-append-drop}
+use lib.Seq.{take-at, take-append-seam, drop-at, set-split, drop-drop, length-take-le}
 use Rattle.text.specs.Answers.{answer, accepted}
 use Rattle.text.specs.Lists.{overlay}
 use Rattle.text.specs.Numbers.{digits, places, placesUpTo, decimal}
@@ -22,7 +22,7 @@ use Rattle.fields.proofs.AmountWays.{overlay-put}
 use Rattle.posting.specs.declared.FileAnswer.{FileAnswer}
 use Rattle.posting.specs.declared.Reported.{Reported}
 use Rattle.posting.specs.File.{totalsOver, breakFrom, fileAnswer, refused}
-use Rattle.posting.specs.Report.{numbersOf, behind, line, reportOf, Report, inputAnswer}
+use Rattle.posting.specs.Report.{numbersOf, behind, line, reportOf, Report, longestLine, WholeLine, inputAnswer}
 
 -- ---- one number on
 line-step : (ns : List ℕ) (i : ℕ) → i < length ns → line (drop i ns) ≡ decimal (getD ns i 0) ++ behind (drop (i + 1) ns) ∷ line (drop (i + 1) ns)
@@ -142,20 +142,38 @@ module _ (a : FileAnswer) (ns s : List ℕ) (n : ℕ) (en : ns ≡ numbersOf a) 
 pub report-of : (a a′ : FileAnswer) (s s′ : List ℕ) (r : Reported) → a′ ≡ a → Report a′ s r s′ → Report a s r s′
 report-of a a′ s s′ r e p = rw e at p
 
--- what a caller needs to take the line off the buffer's front
-pub report-within : (a : FileAnswer) (s t : List ℕ) (r : Reported) → Report a s r t → r .length ≤ length t
-report-within a s t r p = go (leb (length (reportOf a)) (length s)) refl
+-- ---- the line fits
+places-within : (k n : ℕ) → placesUpTo k n ≤ suc k
+unfolding placesUpTo
+places-within zero n = omega arith
+places-within (suc k) n = go (ltb n 10) (places-within k (n / 10))
   where
-    go : (b : Bool) → leb (length (reportOf a)) (length s) ≡ b → r .length ≤ length t
-    go true e =
-        let fits = leb-true (length (reportOf a)) (length s) e in
-        let bytes-are : t ≡ overlay s 0 (reportOf a) = rw e at (p .bytes) in
-        let count : r .length ≡ length (reportOf a) = rw e at (p .counts) in
-        omega (arith, ap length bytes-are, length-overlay s (reportOf a) 0 (omega arith))
-    go false e = let none : r .length ≡ 0 = rw e at (p .counts) in omega arith
+    go : (t : Bool) → placesUpTo k (n / 10) ≤ suc k → cond t 1 (suc (placesUpTo k (n / 10))) ≤ suc (suc k)
+    go true h = omega arith
+    go false h = omega arith
 
-pub report-front : (a : FileAnswer) (s t : List ℕ) (r : Reported) → Report a s r t → r .length ≡ length (take (r .length) t)
-report-front a s t r p = sym (length-take-le (r .length) t (report-within a s t r p))
+line-at-most : (ns : List ℕ) → length (line ns) ≤ 21 * length ns
+unfolding line
+line-at-most [] = omega arith
+line-at-most (n ∷ ns) =
+    omega (arith, length-append (decimal n) (behind ns ∷ line ns), length-digits (places n) n, places-within 19 n, line-at-most ns)
+
+pub report-fits : (a : FileAnswer) → length (reportOf a) ≤ longestLine
+report-fits a = line-at-most (numbersOf a)
+
+pub whole-line : (a : FileAnswer) (s t : List ℕ) (r : Reported) → longestLine ≤ length s → Report a s r t → WholeLine a r t
+whole-line a s t r room p =
+    let fits : leb (length (reportOf a)) (length s) ≡ true = le-leb (length (reportOf a)) (length s) (omega (arith, report-fits a)) in
+    let count : r .length ≡ length (reportOf a) = rw fits at (p .counts) in
+    let line-is : t ≡ overlay s 0 (reportOf a) = rw fits at (p .bytes) in
+    record { answers = rw fits at (p .answers); counts = count; bytes = rw (count, line-is) (take-append-seam (reportOf a) (drop (0 + length (reportOf a)) s)) }
+
+-- what a caller needs to take it off the buffer's front
+pub line-front : (a : FileAnswer) (t : List ℕ) (r : Reported) → WholeLine a r t → r .length ≡ length (take (r .length) t)
+line-front a t r w = w .counts ∙ sym (ap length (w .bytes))
+
+pub line-within : (a : FileAnswer) (t : List ℕ) (r : Reported) → WholeLine a r t → r .length ≤ length t
+line-within a t r w = omega (arith, line-front a t r w, length-take (r .length) t)
 
 -- ---- check_input
 pub input-long : (input : List ℕ) (r : FileAnswer) → 64160 < length input → r ≡ refused 213 0 0 → r ≡ inputAnswer input

@@ -11,13 +11,15 @@ use borrow.Author.Tests.{eq-eqb, ne-eqb, le-leb, lt-leb, not-true, not-false}
 use lib.Dec.{eqb, leb}
 use lib.ListN.{length, getD, take, drop}
 use Rattle.text.specs.declared.Answer.{Answer}
-use Rattle.text.specs.Answers.{answer, accepted}
+use Rattle.text.specs.Answers.{answer, accepted, orElse}
 use Rattle.text.specs.Lists.{sameBytes}
-use Rattle.record.specs.Columns.{orElse}
 use Rattle.record.specs.Rules.{recordAnswer}
 use Rattle.posting.specs.declared.FileAnswer.{FileAnswer}
 use Rattle.posting.specs.declared.Totals.{Totals}
-use Rattle.index.specs.Index.{keyAt, seek, Indexed}
+use Rattle.index.specs.Index.{keyAt, seek, Put}
+use Rattle.index.proofs.Keys.{key-of-record}
+use Rattle.index.proofs.Slots.{indexed-more, length-noting}
+use Rattle.posting.specs.Slots.{RoomFor, NowNoted}
 use Rattle.posting.specs.File.{recordAt, idAt, lineEnds, repeats, lineAnswer, noTotals, withRecord, totalsOver, refused, passed, lineOr, breakFrom, recordsIn, fileAnswer}
 
 pub refused-is : (c n p : ℕ) (t : Totals) → t ≡ noTotals → record { code = c; number = n; place = p; totals = t } ≡ refused c n p
@@ -40,11 +42,17 @@ repeats-seek file i (suc n) = rw (repeats-seek file i n, same-key file i n) (go 
     go true = rw (ne-eqb (suc n) 0 (λ e. omega arith))
     go false = refl
 
-pub repeated-is : (file : List ℕ) (i t : ℕ) → t ≡ seek file 0 (keyAt file 0 i) i → not (eqb t 0) ≡ repeats file i i
-repeated-is file i t e = rw e (sym (repeats-seek file i i))
+module _ (file : List ℕ) (i : ℕ) (table : List ℕ) (t : ℕ) (after : List ℕ) (put : Put table file 0 i t after) (known : RoomFor file i table) where
+  pub repeated-is : not (eqb t 0) ≡ repeats file i i
+  repeated-is = rw (put .before, known .noted .finds (keyAt file 0 i)) (sym (repeats-seek file i i))
 
-pub next-noted : (file : List ℕ) (i m : ℕ) (after : List ℕ) → Indexed file 0 m (i + 1) after → Indexed file 0 (length after) (i + 1) after
-next-noted file i m after known = rw (known .slots) known
+  pub now-noted : i < 1000 → i * 401 + 401 ≤ length file → NowNoted file i table after
+  now-noted low whole =
+      rw (put .notes)
+      record {
+        noted = indexed-more file 0 i table (known .noted) (known .room) (omega arith) (key-of-record file 0 i (omega arith) whole);
+        long = length-noting table file 0 i;
+      }
 
 -- ---- line_answer
 module _ (file : List ℕ) (i : ℕ) where

@@ -6,16 +6,16 @@ use mathlib.Core.List.{List, [], _∷_, _++_}
 use lib.ListN.{length, getD, take, drop}
 use lib.Dec.{eqb, leb}
 use Rattle.text.specs.declared.Answer.{Answer}
-use Rattle.text.specs.Answers.{answer, accepted}
+use Rattle.text.specs.Answers.{answer, accepted, orElse}
 use Rattle.text.specs.Lists.{sameBytes}
 use Rattle.layout.specs.Layout.{fieldOf}
-use Rattle.fields.specs.declared.MoneyReading.{MoneyReading}
-use Rattle.fields.specs.declared.MoneyReading.the-variants as Money
-use Rattle.fields.specs.declared.StatusReading.{StatusReading}
-use Rattle.fields.specs.declared.StatusReading.the-variants as Status
+use Rattle.fields.specs.declared.amounts.Hellers.{Hellers}
+use Rattle.fields.specs.declared.amounts.MoneyReading.{MoneyReading}
+use Rattle.fields.specs.declared.amounts.MoneyReading.the-variants as Money
+use Rattle.fields.specs.declared.others.StatusReading.{StatusReading}
+use Rattle.fields.specs.declared.others.StatusReading.the-variants as Status
 use Rattle.fields.specs.Amounts.{readMoney}
 use Rattle.fields.specs.Others.{readStatus}
-use Rattle.record.specs.Columns.{orElse}
 use Rattle.record.specs.Rules.{recordAnswer}
 use Rattle.posting.specs.declared.FileAnswer.{FileAnswer}
 use Rattle.posting.specs.declared.Totals.{Totals}
@@ -58,14 +58,26 @@ amountIn Money.Absent = 0
 amountIn (Money.Value h) = h .0
 amountIn Money.Malformed = 0
 
--- one record more: a cancelled one is only counted, a live one brings its amounts
-abbrev pub withStatus : Totals → StatusReading → ℕ → ℕ → Totals
-withStatus t Status.Live d p = totals (t .live + 1) (t .cancelled) (t .cash .0 + d) (t .price .0 + p)
-withStatus t Status.Cancelled d p = totals (t .live) (t .cancelled + 1) (t .cash .0) (t .price .0)
-withStatus t Status.Malformed d p = t
+-- the amount in field n of a record; 0 where there is none
+abbrev pub amountOf : List ℕ → ℕ → Hellers
+amountOf rec n = record { 0 = amountIn (readMoney (fieldOf rec n)) }
 
-unfoldable pub withRecord : Totals → List ℕ → Totals
-withRecord t rec = withStatus t (readStatus (fieldOf rec 19)) (amountIn (readMoney (fieldOf rec 16))) (amountIn (readMoney (fieldOf rec 17)))
+-- what a record brings: a live one counts one and brings its two amounts, a cancelled one is only counted; what is neither brings nothing
+abbrev pub broughtAs : StatusReading → Hellers → Hellers → Totals
+broughtAs Status.Live cash price = totals 1 0 (cash .0) (price .0)
+broughtAs Status.Cancelled cash price = totals 0 1 0 0
+broughtAs Status.Malformed cash price = noTotals
+
+unfoldable pub brought : List ℕ → Totals
+brought rec = broughtAs (readStatus (fieldOf rec 19)) (amountOf rec 16) (amountOf rec 17)
+
+-- two totals together, kind by kind
+abbrev pub plusTotals : Totals → Totals → Totals
+plusTotals s t = totals (s .live + t .live) (s .cancelled + t .cancelled) (s .cash .0 + t .cash .0) (s .price .0 + t .price .0)
+
+-- totals with a record more
+abbrev pub withRecord : Totals → List ℕ → Totals
+withRecord t rec = plusTotals t (brought rec)
 
 -- over the first n records
 unfoldable pub totalsOver : List ℕ → ℕ → Totals

@@ -1,5 +1,9 @@
 pub mod File
+pub mod Calls
 pub mod Bounds
 pub mod Report
 pub mod Sums
 pub mod Slots
+pub mod Outcomes
+pub mod Records
+pub mod Examples

@@ -4,7 +4,7 @@ use Prim.Native.Nat.{ℕ}
 use mathlib.Core.Bool.{cond}
 use mathlib.Core.Path.{_≡_}
 use mathlib.Core.List.{List, [], _∷_, _++_}
-use lib.ListN.{length}
+use lib.ListN.{length, take}
 use lib.Dec.{leb, ltb}
 use Rattle.text.specs.Answers.{answer, accepted}
 use Rattle.text.specs.Lists.{overlay}
@@ -37,6 +37,16 @@ pub record Report (a : FileAnswer) (before : List ℕ) (r : Reported) (after : L
   pub counts : r .length ≡ cond (leb (length (reportOf a)) (length before)) (length (reportOf a)) 0
   pub bytes : after ≡ cond (leb (length (reportOf a)) (length before)) (overlay before 0 (reportOf a)) before
 
--- the checking program takes at most 64,160 bytes
+-- ---- the longest line: seven numbers of 20 digits, each with a byte behind it
+abbrev pub longestLine : ℕ
+longestLine = 147
+
+-- what `Report` says where the buffer has at least so many bytes: the whole line stands there
+pub record WholeLine (a : FileAnswer) (r : Reported) (after : List ℕ) : Type 0 where
+  pub answers : r .answer ≡ accepted
+  pub counts : r .length ≡ length (reportOf a)
+  pub bytes : take (r .length) after ≡ reportOf a
+
+-- ---- the checking program takes at most 64,160 bytes
 unfoldable pub inputAnswer : List ℕ → FileAnswer
 inputAnswer input = cond (ltb 64160 (length input)) (refused 213 0 0) (fileAnswer input)

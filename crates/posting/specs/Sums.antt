@@ -4,14 +4,13 @@ use Prim.Native.Nat.{ℕ}
 use mathlib.Core.Bool.{Bool, true, false, cond}
 use mathlib.Core.List.{List, [], _∷_, map}
 use lib.ListN.{length}
-use Rattle.layout.specs.Widths.{sum}
+use Rattle.text.specs.Lists.{sum}
 use Rattle.layout.specs.Layout.{fieldOf}
-use Rattle.fields.specs.declared.StatusReading.{StatusReading}
-use Rattle.fields.specs.declared.StatusReading.the-variants as Status
-use Rattle.fields.specs.Amounts.{readMoney}
+use Rattle.fields.specs.declared.others.StatusReading.{StatusReading}
+use Rattle.fields.specs.declared.others.StatusReading.the-variants as Status
 use Rattle.fields.specs.Others.{readStatus}
 use Rattle.posting.specs.declared.Totals.{Totals}
-use Rattle.posting.specs.File.{totals, amountIn}
+use Rattle.posting.specs.File.{totals, amountOf}
 
 -- those of a list that a test keeps
 unfoldable pub kept : {A : Type 0} → (A → Bool) → List A → List A
@@ -37,10 +36,10 @@ cancelled recs = kept (λ rec. isCancelled (readStatus (fieldOf rec 19))) recs
 
 -- what a record has in fields 16 and 17
 abbrev pub cashIn : List ℕ → ℕ
-cashIn rec = amountIn (readMoney (fieldOf rec 16))
+cashIn rec = amountOf rec 16 .0
 
 abbrev pub priceIn : List ℕ → ℕ
-priceIn rec = amountIn (readMoney (fieldOf rec 17))
+priceIn rec = amountOf rec 17 .0
 
 abbrev pub totalsOf : List (List ℕ) → Totals
 totalsOf recs = totals (length (live recs)) (length (cancelled recs)) (sum (map cashIn (live recs))) (sum (map priceIn (live recs)))

@@ -4,18 +4,21 @@ ghost use mathlib.Core.Bool.{false};
 ghost use Prim.Native.Nat.{_+_, _*_, _^_, _≤_, _<_};
 ghost use mathlib.Core.List.{_∷_, _++_, []};
 ghost use lib.ListN.{length, drop};
-ghost use Rattle.text.specs.Promises.{Gives};
+ghost use Rattle.text.specs.Promises.{Gives, GivesWithin};
 ghost use Rattle.text.specs.Lists.{overlay};
 ghost use Rattle.text.specs.Numbers.{places, decimal};
-ghost use Rattle.posting.specs.File.{repeats, lineAnswer, noTotals, amountIn, withRecord, refused, fileAnswer};
-ghost use Rattle.posting.specs.Bounds.{Small, counted};
-ghost use Rattle.posting.specs.Slots.{Spaced, NextSpaced, Checking};
+ghost use Rattle.posting.specs.File.{repeats, lineAnswer, noTotals, amountOf, brought, withRecord, refused, fileAnswer};
+ghost use Rattle.posting.specs.Calls.{fits, sumOfTotals, totalOr};
+ghost use Rattle.posting.specs.Bounds.{Small};
+ghost use Rattle.posting.specs.Slots.{RoomFor, NowNoted, ToCheck};
 ghost use Rattle.posting.specs.Report.{numbersOf, behind, line, Report, inputAnswer};
 use fields::Hellers;
 use fields::MoneyReading;
 use fields::StatusReading;
 use fields::Sum;
+use text::ACCEPTED;
 use text::Answer;
+use text::WRONG_LENGTH;
 
 // Live and cancelled consignments, and what the live ones bring.
 pub struct Totals {
@@ -23,6 +26,12 @@ pub struct Totals {
     pub cancelled: u64,
     pub cash: Hellers,
     pub price: Hellers,
+}
+
+// What two totals make together.
+pub enum TotalsSum {
+    Total(Totals),
+    TooLarge,
 }
 
 // Code, number of the record and place of the first break, or 0, 0, 0 and the totals.
@@ -62,105 +71,136 @@ fn refused(code: u32, number: u32, place: u32) -> FileAnswer
     }
 }
 
-// Whether one of the records before record i has its identifier. The index of those before gets this one, too.
+// Whether one of the records before record i has its identifier. Those before are noted in the table, and this one is then, too.
 fn repeated(file: &[u8], i: usize, table: &mut [u16]) -> bool
-    requires { ⌜ (i < 1000) × (i * 401 + 401 ≤ length (now file)) × Spaced (now file) i (now table) ⌝ }
-    ensures { λ r. ⌜ (r ≡ repeats (now (file .entry)) i i) × NextSpaced (now (file .entry)) i (now (table .entry)) (now (table .exit)) ⌝ }
+    requires { ⌜ (i < 1000) × (i * 401 + 401 ≤ length (now file)) × RoomFor (now file) i (now table) ⌝ }
+    ensures { λ r. ⌜ (r ≡ repeats (now (file .entry)) i i) × NowNoted (now (file .entry)) i (now (table .entry)) (now (table .exit)) ⌝ }
 {
     let before = index::put(table, file, 0, i);
     before != 0
 }
 
+// The line end is wrong.
+const WRONG_END: Answer = Answer {
+    code: 212,
+    place: 0,
+};
+
+// The identifier is there already, cancelled or not.
+pub const TWICE: Answer = Answer { code: 2, place: 1 };
+
 // What record i breaks, its line end first.
 fn line_answer(file: &[u8], i: usize, table: &mut [u16]) -> Answer
-    requires { ⌜ (i < 1000) × (i * 401 + 401 ≤ length (now file)) × Spaced (now file) i (now table) ⌝ }
-    ensures { λ r. ⌜ (r ≡ lineAnswer (now (file .entry)) i) × (r .code ≡ 0 → NextSpaced (now (file .entry)) i (now (table .entry)) (now (table .exit))) ⌝ }
+    requires { ⌜ (i < 1000) × (i * 401 + 401 ≤ length (now file)) × RoomFor (now file) i (now table) ⌝ }
+    ensures { λ r. ⌜ (r ≡ lineAnswer (now (file .entry)) i) × (r .code ≡ 0 → NowNoted (now (file .entry)) i (now (table .entry)) (now (table .exit))) ⌝ }
 {
     let at = i * 401;
     let e = at + 399;
     let ended = (file[e] == 13) & (file[at + 400] == 10);
     if !ended {
-        return Answer {
-            code: 212,
-            place: 0,
-        };
+        return WRONG_END;
     }
     let answer = record::check(&file[at..e]);
     if answer.code != 0 {
         return answer;
     }
     if repeated(file, i, table) {
-        return Answer { code: 2, place: 1 };
+        return TWICE;
     }
-    Answer { code: 0, place: 0 }
+    ACCEPTED
 }
 
-// The amount that was read; 0 where there is none.
-fn amount_in(m: MoneyReading) -> Hellers
-    ensures { λ r. ⌜ r .0 ≡ amountIn m ⌝ }
+// ---- totals
+
+// Whether the sum of two counts has 64 bits.
+fn fits(a: u64, b: u64) -> bool
+    ensures { λ r. ⌜ r ≡ fits (a + b) ⌝ }
 {
-    match m {
+    a <= u64::MAX - b
+}
+
+impl Totals {
+    // Kind by kind: haléře on delivery and haléře specified never meet.
+    pub fn plus(self, other: Totals) -> TotalsSum
+        ensures { λ r. ⌜ Gives (sumOfTotals self other) r ⌝ }
+    {
+        if !fits(self.live, other.live) {
+            return TotalsSum::TooLarge;
+        }
+        let live = self.live + other.live;
+        if !fits(self.cancelled, other.cancelled) {
+            return TotalsSum::TooLarge;
+        }
+        let cancelled = self.cancelled + other.cancelled;
+        let Sum::Total(cash) = self.cash.plus(other.cash) else {
+            return TotalsSum::TooLarge;
+        };
+        let Sum::Total(price) = self.price.plus(other.price) else {
+            return TotalsSum::TooLarge;
+        };
+        TotalsSum::Total(Totals {
+            live,
+            cancelled,
+            cash,
+            price,
+        })
+    }
+}
+
+impl TotalsSum {
+    pub fn total_or(self, other: Totals) -> Totals
+        ensures { λ r. ⌜ Gives (totalOr self other) r ⌝ }
+    {
+        match self {
+            TotalsSum::Total(t) => t,
+            TotalsSum::TooLarge => other,
+        }
+    }
+}
+
+// The amount in field n of a record; 0 where there is none.
+pub fn amount(rec: &[u8], n: usize) -> Hellers
+    ensures { λ r. ⌜ GivesWithin (amountOf (now (rec .entry)) n) (λ h. h .0 < 100000000000) r ⌝ }
+{
+    match fields::read_money(layout::field(rec, n)) {
         MoneyReading::Absent => Hellers(0),
         MoneyReading::Value(h) => h,
         MoneyReading::Malformed => Hellers(0),
     }
 }
 
-// The sum of two amounts that together stay small.
-fn sum(a: Hellers, b: Hellers) -> Hellers
-    requires { ⌜ a .0 + b .0 < 1000000000000000 ⌝ }
-    ensures { λ r. ⌜ r .0 ≡ a .0 + b .0 ⌝ }
+// What a record brings to the totals, live or cancelled. What is neither brings nothing.
+pub fn brought(rec: &[u8]) -> Totals
+    ensures { λ r. ⌜ Gives (brought (now (rec .entry))) r ⌝ }
 {
-    match a.plus(b) {
-        Sum::Total(c) => c,
-        Sum::TooLarge => a,
+    match fields::read_status(layout::field(rec, 19)) {
+        StatusReading::Live => Totals {
+            live: 1,
+            cancelled: 0,
+            cash: amount(rec, 16),
+            price: amount(rec, 17),
+        },
+        StatusReading::Cancelled => Totals {
+            live: 0,
+            cancelled: 1,
+            cash: Hellers(0),
+            price: Hellers(0),
+        },
+        StatusReading::Malformed => no_totals(),
     }
 }
 
-// The totals with a record of 399 bytes more.
+// The totals with a record more. Small ones never grow too large by one.
 fn with_record(t: Totals, rec: &[u8]) -> Totals
     requires { ⌜ Small t ⌝ }
     ensures { λ r. ⌜ r ≡ withRecord t (now (rec .entry)) ⌝ }
 {
-    let cash = t.cash;
-    let price = t.price;
-    match fields::read_status(layout::field(rec, 19)) {
-        StatusReading::Live => {
-            let d = amount_in(fields::read_money(layout::field(rec, 16)));
-            let p = amount_in(fields::read_money(layout::field(rec, 17)));
-            Totals {
-                live: t.live + 1,
-                cancelled: t.cancelled,
-                cash: sum(cash, d),
-                price: sum(price, p),
-            }
-        }
-        StatusReading::Cancelled => Totals {
-            live: t.live,
-            cancelled: t.cancelled + 1,
-            cash,
-            price,
-        },
-        StatusReading::Malformed => t,
-    }
+    t.plus(brought(rec)).total_or(t)
 }
 
-// The totals with a record more, for whoever counts a file record by record. Totals that no file has stay as they are.
-pub fn count_record(t: Totals, rec: &[u8]) -> Totals
-    ensures { λ r. ⌜ Gives (counted t (now (rec .entry))) r ⌝ }
-{
-    let cash = t.cash;
-    let price = t.price;
-    let small = (t.live < 1000)
-        & (t.cancelled < 1000)
-        & (cash.0 < 100_000_000_000_000)
-        & (price.0 < 100_000_000_000_000);
-    if small { with_record(t, rec) } else { t }
-}
-
-// The answer to whole records, with a table of more slots that are all free.
+// The answer to whole records. The lent table has none of them yet, and more slots than there are records.
 fn checked(file: &[u8], table: &mut [u16]) -> FileAnswer
-    requires { ⌜ Checking (now file) (now table) ⌝ }
+    requires { ⌜ ToCheck (now file) (now table) ⌝ }
     ensures { λ r. ⌜ r ≡ fileAnswer (now (file .entry)) ⌝ }
 {
     let n = file.len() / 401;
@@ -193,6 +233,7 @@ pub fn check(file: &[u8]) -> FileAnswer
     if n > 999 {
         return refused(213, 0, 0);
     }
+    // Slots are cleared at each call, so there are few for a small file; and at least twice as many as records, so that walks are short.
     if n < 64 {
         let mut few = [0u16; 128];
         return checked(file, &mut few[..128]);
@@ -206,6 +247,9 @@ pub fn check(file: &[u8]) -> FileAnswer
 }
 
 // ---- the line of seven numbers
+
+// So many bytes serve for every line: seven numbers of 20 digits, each with a byte behind it.
+pub const LONGEST_LINE: usize = 147;
 
 // Code, record, place, live, cancelled, haléře on delivery, haléře specified.
 pub fn numbers_of(a: FileAnswer) -> [u64; 7]
@@ -278,16 +322,13 @@ fn put_report(a: FileAnswer, out: &mut [u8]) -> Reported
     let n = line_length(&numbers);
     if n > out.len() {
         return Reported {
-            answer: Answer {
-                code: 236,
-                place: 0,
-            },
+            answer: WRONG_LENGTH,
             length: 0,
         };
     }
     put_line(out, &numbers);
     Reported {
-        answer: Answer { code: 0, place: 0 },
+        answer: ACCEPTED,
         length: n,
     }
 }

@@ -1,4 +1,6 @@
 pub mod Tables
+pub mod ReadingWays
 pub mod Ways
 pub mod Order
 pub mod Status
+pub mod Codes

@@ -1,51 +1,22 @@
--- The answer to a record, in the paper's words: 0 exactly if none of the eleven conditions holds; otherwise the first that holds, with its place.
+-- The answer to a record, in the paper's words: 0 exactly if none of the conditions holds; otherwise the first that holds, with its place. It gives
+-- no other code than those of `recordCodes`.
 -- Assumes nothing.
 use Prim.Native.Nat.{ℕ}
 use mathlib.Core.Path.{_≡_, refl, sym, ap, _∙_}
 use mathlib.Core.Bool.{Bool, true, false, cond, _||_}
 use mathlib.Core.List.{List, [], _∷_, _++_, map}
 use mathlib.Core.Logic.{_↔_}
-use native.Mathlib.Omega.{arith}
-use borrow.Author.Tests.{eq-eqb}
+use borrow.Author.Tests.{eq-eqb, ne-eqb, eqb-true, eqb-false}
 use lib.Dec.{eqb}
 use lib.ListN.{length}
 use Rattle.text.specs.declared.Answer.{Answer}
 use Rattle.text.specs.Answers.{answer, accepted}
+use Rattle.text.proofs.Booleans.{clash}
 use Rattle.record.specs.Table.{Case, Rule, firstCase, firstRule, verdict, anyCase, broken}
 use Rattle.record.specs.Rules.{table, recordAnswer}
-use Rattle.record.proofs.Tables.{Coded}
-
--- ---- the paper's table: eleven codes, in this order
-pub codes-in-order : (posting : Bool) (rec : List ℕ) → map (λ (r : Rule). r .code) (table posting rec) ≡ 1 ∷ 210 ∷ 27 ∷ 34 ∷ 36 ∷ 11 ∷ 221 ∷ 222 ∷ 220 ∷ 223 ∷ 72 ∷ []
-unfolding table
-codes-in-order posting rec = refl
-
--- ---- no case, no rule of a list holds
-unfoldable pub noCase : List Case → Bool
-noCase [] = true
-noCase (k ∷ ks) = cond (k .when) false (noCase ks)
-
-unfoldable pub noneBroken : List Rule → Bool
-noneBroken [] = true
-noneBroken (r ∷ rs) = cond (broken r) false (noneBroken rs)
-
--- the first case that holds, and the first rule that is broken
-pub record FirstCase (c : ℕ) (ks : List Case) (a : Answer) : Type 0 where
-  pub before : List Case
-  pub here : Case
-  pub after : List Case
-  pub split : ks ≡ before ++ here ∷ after
-  pub none : noCase before ≡ true
-  pub holds : here .when ≡ true
-  pub says : a ≡ answer c (here .place)
-
-pub record FirstBroken (rs : List Rule) (a : Answer) : Type 0 where
-  pub before : List Rule
-  pub here : Rule
-  pub after : List Rule
-  pub split : rs ≡ before ++ here ∷ after
-  pub none : noneBroken before ≡ true
-  pub case : FirstCase (here .code) (here .cases) a
+use Rattle.record.specs.Codes.{tableCodes, recordCodes, lacks}
+use Rattle.record.specs.Outcomes.{noCase, noneBroken, FirstCase, FirstBroken, Outcome, good, bad}
+use Rattle.record.proofs.Codes.{codeOf, codes-in-order, lacks-other, lacks-behind, lacks-there, none-zero}
 
 -- ---- one rule
 data Judged (c : ℕ) (ks : List Case) (b r : Answer) : Type 0 where
@@ -65,10 +36,6 @@ judge-case c (k ∷ ks) b = go (k .when) refl (judge-case c ks b)
         (record { before = k ∷ (f .before); here = f .here; after = f .after; split = ap (λ (l : List Case). k ∷ l) (f .split); none = rw e (f .none); holds = f .holds; says = f .says })
 
 -- ---- a table
-pub data Outcome (rs : List Rule) (a : Answer) : Type 0 where
-  good : noneBroken rs ≡ true → a ≡ accepted → Outcome rs a
-  bad : noneBroken rs ≡ false → FirstBroken rs a → Outcome rs a
-
 pub outcome : (rs : List Rule) → Outcome rs (verdict rs)
 unfolding noneBroken
 outcome [] = good refl refl
@@ -87,39 +54,36 @@ pub record-outcome : (posting : Bool) (rec : List ℕ) → length rec ≡ 399 �
 unfolding recordAnswer
 record-outcome posting rec e = rw (eq-eqb (length rec) 399 e) (outcome (table posting rec))
 
-coded-there : (before : List Rule) (r : Rule) (after : List Rule) → Coded (before ++ r ∷ after) → r .code ≡ 0 → ⊥
-coded-there [] r after c = c .0
-coded-there (x ∷ before) r after c = coded-there before r after (c .1)
-
-coded-table : (posting : Bool) (rec : List ℕ) → Coded (table posting rec)
-unfolding table
-coded-table posting rec = (
-  λ e. omega arith,
-  (
-    λ e. omega arith,
-    (
-      λ e. omega arith,
-      (
-        λ e. omega arith,
-        (
-          λ e. omega arith,
-          (
-            λ e. omega arith,
-            (λ e. omega arith, (λ e. omega arith, (λ e. omega arith, (λ e. omega arith, (λ e. omega arith, tt))))),
-          ),
-        ),
-      ),
-    ),
-  ),
-)
-
--- code 0 exactly if none of the eleven conditions holds
+-- code 0 exactly if none of the conditions holds
 pub accepted-exactly : (posting : Bool) (rec : List ℕ) → length rec ≡ 399 → (recordAnswer posting rec .code ≡ 0) ↔ (noneBroken (table posting rec) ≡ true)
-accepted-exactly posting rec e = go (record-outcome posting rec e) (coded-table posting rec)
+accepted-exactly posting rec e = go (record-outcome posting rec e) (none-zero posting rec)
   where
-    go : {rs : List Rule} {a : Answer} → Outcome rs a → Coded rs → (a .code ≡ 0) ↔ (noneBroken rs ≡ true)
-    go (good q g) c = (λ z. q, λ t. ap (λ (x : Answer). x .code) g)
-    go (bad q f) c = (
-      λ z. absurd (coded-there (f .before) (f .here) (f .after) (rw (f .split) at c) (sym (ap (λ (x : Answer). x .code) (f .case .says)) ∙ z)),
-      λ t. absurd (let y : _≡_ {A = ℕ} 0 1 = cc in omega arith),
+    go : {rs : List Rule} {a : Answer} → Outcome rs a → lacks 0 (map codeOf rs) ≡ true → (a .code ≡ 0) ↔ (noneBroken rs ≡ true)
+    go (good q g) n = (λ z. q, λ t. ap (λ (x : Answer). x .code) g)
+    go {rs} (bad q f) n = (
+      λ z. absurd (lacks-other 0 (f .here .code) (map codeOf rs) (rw (f .split) (lacks-there (f .before) (f .here) (f .after))) n (sym (ap (λ (x : Answer). x .code) (f .case .says)) ∙ z)),
+      λ t. absurd (clash t q),
     )
+
+-- ---- and no other code than those of `recordCodes`
+other-length : (posting : Bool) (rec : List ℕ) → (length rec ≡ 399 → ⊥) → recordAnswer posting rec .code ≡ 236
+unfolding recordAnswer
+other-length posting rec n = rw (ne-eqb (length rec) 399 n)
+
+pub code-known : (posting : Bool) (rec : List ℕ) → lacks (recordAnswer posting rec .code) recordCodes ≡ false
+unfolding lacks
+code-known posting rec = go (eqb (length rec) 399) refl
+  where
+    in-table : (c : ℕ) → lacks c (map codeOf (table posting rec)) ≡ false → lacks c recordCodes ≡ false
+    in-table c there = lacks-behind c 0 (236 ∷ tableCodes) (lacks-behind c 236 tableCodes (rw (codes-in-order posting rec) at there))
+
+    judged : {a : Answer} → Outcome (table posting rec) a → lacks (a .code) recordCodes ≡ false
+    judged (good g e) = rw e
+    judged (bad g f) = rw (ap (λ (x : Answer). x .code) (f .case .says)) (in-table (f .here .code) (rw (f .split) (lacks-there (f .before) (f .here) (f .after))))
+
+    go : (t : Bool) → eqb (length rec) 399 ≡ t → lacks (recordAnswer posting rec .code) recordCodes ≡ false
+    go true e = judged (record-outcome posting rec (eqb-true _ 399 e))
+    go false e = rw (other-length posting rec (eqb-false _ 399 e))
+
+pub no-other-code : (posting : Bool) (rec : List ℕ) (c : ℕ) → lacks c recordCodes ≡ true → recordAnswer posting rec .code ≡ c → ⊥
+no-other-code posting rec c l z = lacks-other c (recordAnswer posting rec .code) recordCodes (code-known posting rec) l z

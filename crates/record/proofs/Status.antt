@@ -13,16 +13,17 @@ use lib.Seq.{take-set-le, drop-set-lt, drop-set-add, drop-cons, getD-set-same, g
 use Rattle.layout.specs.Widths.{start, cut}
 use Rattle.layout.specs.Layout.{widths, isField, fieldOf}
 use Rattle.layout.proofs.Tiling.{no-overlap}
-use Rattle.fields.specs.declared.StatusReading.{StatusReading}
-use Rattle.fields.specs.declared.StatusReading.the-variants as Status
+use Rattle.fields.specs.declared.others.StatusReading.{StatusReading}
+use Rattle.fields.specs.declared.others.StatusReading.the-variants as Status
 use Rattle.fields.specs.Others.{readStatus}
 use Rattle.fields.proofs.OtherLaws.{live-exactly, cancelled-exactly}
 use Rattle.text.specs.Answers.{answer}
 use Rattle.text.proofs.Booleans.{clash}
 use Rattle.record.specs.Table.{Rule, placesFrom, anyCase, broken, verdict}
-use Rattle.record.specs.Readings.{whenOf, addressOf, contactOf, goodsOf, marksOf, setOf, tailOf, badStatus}
-use Rattle.record.specs.Rules.{malformed, givenOf, packOf, table, recordAnswer}
-use Rattle.record.proofs.Order.{noneBroken, accepted-exactly}
+use Rattle.record.specs.Readings.{whenOf, addressOf, contactOf, goodsOf, marksOf, pieceOf, tailOf, malformedStatus, cancelledRec}
+use Rattle.record.specs.Rules.{malformed, givenOf, travelOf, table, recordAnswer}
+use Rattle.record.specs.Outcomes.{noneBroken}
+use Rattle.record.proofs.Order.{accepted-exactly}
 
 -- ---- a part of a list, with one place outside it set
 part-set-before : {A : Type 0} (s : List A) (a w i : ℕ) (v : A) → i < a → take w (drop a (set s i v)) ≡ take w (drop a s)
@@ -35,10 +36,7 @@ part-set-behind s a w i v h =
     ap (take w) shifted ∙ take-set-le w (drop a s) (i - a) v (omega arith)
 
 -- ---- a record with its status set to "0 "
-abbrev cancelledRec : List ℕ → List ℕ
-cancelledRec rec = set (set rec 340 48) 341 32
-
-pub cancelled-rec-long : (rec : List ℕ) → length (set (set rec 340 48) 341 32) ≡ length rec
+pub cancelled-rec-long : (rec : List ℕ) → length (cancelledRec rec) ≡ length rec
 cancelled-rec-long rec = length-set (set rec 340 48) 341 32 ∙ length-set rec 340 48
 
 -- a field that ends before the status, and one that starts behind it
@@ -55,7 +53,7 @@ cut-behind rec k h g =
     ∙ part-set-before rec (start widths k) (getD widths k 0) 340 48 (omega arith)
 
 -- every other field stays
-pub cancelled-rec-others : (rec : List ℕ) (n : ℕ) → (n ≡ 19 → ⊥) → fieldOf (set (set rec 340 48) 341 32) n ≡ fieldOf rec n
+pub cancelled-rec-others : (rec : List ℕ) (n : ℕ) → (n ≡ 19 → ⊥) → fieldOf (cancelledRec rec) n ≡ fieldOf rec n
 unfolding fieldOf
 cancelled-rec-others rec n other = rw (cancelled-rec-long rec) (go (eqb (length rec) 399 && isField n) refl)
   where
@@ -73,7 +71,7 @@ cancelled-rec-others rec n other = rw (cancelled-rec-long rec) (go (eqb (length 
     go false e = refl
 
 -- and the status is "0 "
-pub cancelled-rec-status : (rec : List ℕ) → length rec ≡ 399 → fieldOf (set (set rec 340 48) 341 32) 19 ≡ 48 ∷ 32 ∷ []
+pub cancelled-rec-status : (rec : List ℕ) → length rec ≡ 399 → fieldOf (cancelledRec rec) 19 ≡ 48 ∷ 32 ∷ []
 unfolding fieldOf
 cancelled-rec-status rec long =
     let wide : length (cancelledRec rec) ≡ 399 = cancelled-rec-long rec ∙ long in
@@ -85,8 +83,8 @@ cancelled-rec-status rec long =
 
 -- ---- two records that differ in the status alone, under either table
 status-only : (p q : Bool) (rec new : List ℕ) → ((n : ℕ) → (n ≡ 19 → ⊥) → fieldOf new n ≡ fieldOf rec n)
-    → badStatus q (readStatus (fieldOf new 19)) ≡ badStatus p (readStatus (fieldOf rec 19)) → noneBroken (table q new) ≡ noneBroken (table p rec)
-unfolding table givenOf packOf
+    → malformedStatus q (readStatus (fieldOf new 19)) ≡ malformedStatus p (readStatus (fieldOf rec 19)) → noneBroken (table q new) ≡ noneBroken (table p rec)
+unfolding table givenOf travelOf
 status-only p q rec new same e =
     let other : (n : ℕ) → eqb n 19 ≡ false → fieldOf new n ≡ fieldOf rec n = λ n h. same n (eqb-false n 19 h) in
     rw (e, other 1 refl, other 2 refl, other 3 refl, other 4 refl, other 5 refl, other 6 refl, other 7 refl, other 8 refl, other 9 refl, other 10 refl, other 11 refl, other 12 refl, other 13 refl, other 14 refl, other 15 refl, other 16 refl, other 17 refl, other 18 refl, other 20 refl, other 21 refl, other 22 refl, other 23 refl, other 24 refl, other 25 refl, other 26 refl)
@@ -109,14 +107,14 @@ second-kept r s rs h = go (broken r) (broken s) h
 
 -- which of the fields 2 to 26 are malformed
 abbrev pub malformedIn : Bool → List ℕ → List Bool
-malformedIn posting rec = malformed posting (whenOf rec) (addressOf rec) (contactOf rec) (goodsOf rec) (marksOf rec) (setOf rec) (tailOf rec)
+malformedIn toBePosted rec = malformed toBePosted (whenOf rec) (addressOf rec) (contactOf rec) (goodsOf rec) (marksOf rec) (pieceOf rec) (tailOf rec)
 
-pub none-malformed : (posting : Bool) (rec : List ℕ) → noneBroken (table posting rec) ≡ true → (k : ℕ) → getD (malformedIn posting rec) k false ≡ false
+pub none-malformed : (toBePosted : Bool) (rec : List ℕ) → noneBroken (table toBePosted rec) ≡ true → (k : ℕ) → getD (malformedIn toBePosted rec) k false ≡ false
 unfolding table
-none-malformed posting rec h k = no-flag (malformedIn posting rec) 2 k (second-kept _ _ _ h)
+none-malformed toBePosted rec h k = no-flag (malformedIn toBePosted rec) 2 k (second-kept _ _ _ h)
 
-status-allowed : (posting : Bool) (rec : List ℕ) → noneBroken (table posting rec) ≡ true → badStatus posting (readStatus (fieldOf rec 19)) ≡ false
-status-allowed posting rec h = none-malformed posting rec h 17
+status-allowed : (toBePosted : Bool) (rec : List ℕ) → noneBroken (table toBePosted rec) ≡ true → malformedStatus toBePosted (readStatus (fieldOf rec 19)) ≡ false
+status-allowed toBePosted rec h = none-malformed toBePosted rec h 17
 
 -- ---- a record that may be posted
 posting-long : (rec : List ℕ) → recordAnswer true rec .code ≡ 0 → length rec ≡ 399
@@ -133,20 +131,20 @@ posting-passes rec z =
     let kept = accepted-exactly true rec long .0 z in
     go (readStatus (fieldOf rec 19)) refl long kept (status-allowed true rec kept)
   where
-    go : (s : StatusReading) → readStatus (fieldOf rec 19) ≡ s → length rec ≡ 399 → noneBroken (table true rec) ≡ true → badStatus true s ≡ false
+    go : (s : StatusReading) → readStatus (fieldOf rec 19) ≡ s → length rec ≡ 399 → noneBroken (table true rec) ≡ true → malformedStatus true s ≡ false
         → (length rec ≡ 399) × (fieldOf rec 19 ≡ 32 ∷ 32 ∷ []) × (recordAnswer false rec .code ≡ 0)
     go Status.Live e long kept a = (
       long,
       live-exactly (fieldOf rec 19) .0 e,
-      accepted-exactly false rec long .1 (status-only true false rec rec (λ n h. refl) (ap (badStatus false) e ∙ sym (ap (badStatus true) e)) ∙ kept),
+      accepted-exactly false rec long .1 (status-only true false rec rec (λ n h. refl) (ap (malformedStatus false) e ∙ sym (ap (malformedStatus true) e)) ∙ kept),
     )
     go Status.Cancelled e long kept a = absurd (clash refl a)
     go Status.Malformed e long kept a = absurd (clash refl a)
 
 -- ---- a record whose status is set to "0 "
-pub cancelled-rec-passes : (rec : List ℕ) → length rec ≡ 399 → recordAnswer false rec .code ≡ 0 → recordAnswer false (set (set rec 340 48) 341 32) .code ≡ 0
+pub cancelled-rec-passes : (rec : List ℕ) → length rec ≡ 399 → recordAnswer false rec .code ≡ 0 → recordAnswer false (cancelledRec rec) .code ≡ 0
 cancelled-rec-passes rec long z =
     let kept = accepted-exactly false rec long .0 z in
-    let status : badStatus false (readStatus (fieldOf (cancelledRec rec) 19)) ≡ false = ap (badStatus false) (cancelled-exactly _ .1 (cancelled-rec-status rec long)) in
+    let status : malformedStatus false (readStatus (fieldOf (cancelledRec rec) 19)) ≡ false = ap (malformedStatus false) (cancelled-exactly _ .1 (cancelled-rec-status rec long)) in
     accepted-exactly false (cancelledRec rec) (cancelled-rec-long rec ∙ long) .1
     (status-only false false rec (cancelledRec rec) (cancelled-rec-others rec) (status ∙ sym (status-allowed false rec kept)) ∙ kept)

@@ -10,9 +10,9 @@ use borrow.Author.Tests.{eq-eqb, ne-eqb}
 use lib.Dec.{eqb}
 use lib.ListN.{length, getD}
 use Rattle.text.specs.declared.Answer.{Answer}
-use Rattle.text.specs.Answers.{answer, accepted}
+use Rattle.text.specs.Answers.{answer, accepted, orElse}
 use Rattle.record.specs.Table.{Case, Rule, at, rule, firstCase, firstRule, verdict, placesFrom, anyCase, broken}
-use Rattle.record.specs.Columns.{caseWhens, whens, caseCodes, codes, casePlaces, places, firstTrue, orElse}
+use Rattle.record.specs.Columns.{caseWhens, whens, caseCodes, codeColumn, casePlaces, placeColumn, firstTrue}
 
 -- ---- one rule behind another
 or-case : (c : ℕ) (ks : List Case) (b : Answer) → (c ≡ 0 → ⊥) → orElse (firstCase c ks accepted) b ≡ firstCase c ks b
@@ -72,6 +72,21 @@ no-lowest c [] p h = refl
 no-lowest c (true ∷ bs) p h = absurd (omega arith)
 no-lowest c (false ∷ bs) p h = no-lowest c bs (suc p) (omega arith)
 
+-- malformed fields from place p on: 210 at the first
+abbrev pub Malformed : ℕ → List Bool → Answer
+Malformed p flags = verdict (rule 210 (placesFrom p flags) ∷ [])
+
+-- one group of fields behind another
+pub groups-join : (p q : ℕ) (xs ys : List Bool) → q ≡ p + length xs → orElse (Malformed p xs) (Malformed q ys) ≡ Malformed p (xs ++ ys)
+unfolding orElse
+groups-join p q [] ys e = let here : q ≡ p = omega arith in rw here
+groups-join p q (x ∷ xs) ys e = go x (groups-join (suc p) q xs ys (omega arith))
+  where
+    go : (t : Bool) → orElse (Malformed (suc p) xs) (Malformed q ys) ≡ Malformed (suc p) (xs ++ ys)
+        → orElse (cond t (answer 210 p) (Malformed (suc p) xs)) (Malformed q ys) ≡ cond t (answer 210 p) (Malformed (suc p) (xs ++ ys))
+    go true h = refl
+    go false h = h
+
 -- ---- a table by its columns
 case-columns : (c : ℕ) (ks : List Case) (ws : List Bool) (cs ps : List ℕ) (b : Answer) → answer (getD cs (firstTrue ws) 0) (getD ps (firstTrue ws) 0) ≡ b
     → answer (getD (caseCodes c ks cs) (firstTrue (caseWhens ks ws)) 0) (getD (casePlaces ks ps) (firstTrue (caseWhens ks ws)) 0) ≡ firstCase c ks b
@@ -85,10 +100,10 @@ case-columns c (k ∷ ks) ws cs ps b e = go (k .when) (case-columns c ks ws cs p
     go true h = refl
     go false h = h
 
-columns : (rs : List Rule) → answer (getD (codes rs) (firstTrue (whens rs)) 0) (getD (places rs) (firstTrue (whens rs)) 0) ≡ verdict rs
+columns : (rs : List Rule) → answer (getD (codeColumn rs) (firstTrue (whens rs)) 0) (getD (placeColumn rs) (firstTrue (whens rs)) 0) ≡ verdict rs
 unfolding firstTrue
 columns [] = refl
-columns (r ∷ rs) = case-columns (r .code) (r .cases) (whens rs) (codes rs) (places rs) (verdict rs) (columns rs)
+columns (r ∷ rs) = case-columns (r .code) (r .cases) (whens rs) (codeColumn rs) (placeColumn rs) (verdict rs) (columns rs)
 
-pub by-columns : (rs : List Rule) (i : ℕ) → i ≡ firstTrue (whens rs) → answer (getD (codes rs) i 0) (getD (places rs) i 0) ≡ verdict rs
+pub by-columns : (rs : List Rule) (i : ℕ) → i ≡ firstTrue (whens rs) → answer (getD (codeColumn rs) i 0) (getD (placeColumn rs) i 0) ≡ verdict rs
 by-columns rs i e = rw e (columns rs)

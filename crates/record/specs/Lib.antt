@@ -2,3 +2,6 @@ pub mod Table
 pub mod Columns
 pub mod Readings
 pub mod Rules
+pub mod Codes
+pub mod Outcomes
+pub mod Examples

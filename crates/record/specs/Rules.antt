@@ -3,82 +3,93 @@
 use Prim.Native.Nat.{ℕ}
 use mathlib.Core.Bool.{Bool, true, false, cond, not, _&&_, _||_}
 use mathlib.Core.List.{List, [], _∷_, _++_}
-use mathlib.Core.Path.{_≡_}
 use lib.ListN.{length, getD}
 use lib.Dec.{eqb, ltb}
 use Rattle.text.specs.declared.Answer.{Answer}
-use Rattle.text.specs.Answers.{answer}
+use Rattle.text.specs.Answers.{wrongLength}
 use Rattle.text.specs.Lists.{sameBytes}
 use Rattle.ident.specs.Identifier.{rightId}
 use Rattle.layout.specs.Layout.{fieldOf}
-use Rattle.fields.specs.declared.Services.{Services}
-use Rattle.fields.specs.Services.{hasCode}
-use Rattle.record.specs.declared.Address.{Address}
-use Rattle.record.specs.declared.Contact.{Contact}
-use Rattle.record.specs.declared.Goods.{Goods}
-use Rattle.record.specs.declared.Marks.{Marks}
-use Rattle.record.specs.declared.Set.{Set}
-use Rattle.record.specs.declared.Tail.{Tail}
-use Rattle.record.specs.declared.When.{When}
-use Rattle.record.specs.declared.Asked.{Asked}
-use Rattle.record.specs.declared.Given.{Given}
-use Rattle.record.specs.declared.Pack.{Pack}
+use Rattle.fields.specs.declared.services.Services.{Services}
+use Rattle.fields.specs.Dates.{malformedDate, malformedTime}
+use Rattle.fields.specs.Texts.{malformedText, absentText}
+use Rattle.fields.specs.Numbers.{malformedNumber, absentNumber, numberIn}
+use Rattle.fields.specs.Others.{malformedCountry, absentCountry, malformedEmpty, malformedMain, absentMain}
+use Rattle.fields.specs.Amounts.{malformedWeight, absentOrZeroWeight, malformedMoney, absentMoney, absentOrZeroMoney}
+use Rattle.fields.specs.Services.{hasCode, malformedServices, servicesIn}
+use Rattle.record.specs.declared.readings.Address.{Address}
+use Rattle.record.specs.declared.readings.Contact.{Contact}
+use Rattle.record.specs.declared.readings.Goods.{Goods}
+use Rattle.record.specs.declared.readings.Marks.{Marks}
+use Rattle.record.specs.declared.readings.Piece.{Piece}
+use Rattle.record.specs.declared.readings.Tail.{Tail}
+use Rattle.record.specs.declared.readings.When.{When}
+use Rattle.record.specs.declared.rules.Asked.{Asked}
+use Rattle.record.specs.declared.rules.Given.{Given}
+use Rattle.record.specs.declared.rules.Travel.{Travel}
 use Rattle.record.specs.Table.{Case, Rule, at, rule, placesFrom, verdict}
-use Rattle.record.specs.Readings.{whenOf, addressOf, contactOf, goodsOf, marksOf, setOf, tailOf, badDate, badTime, badText, badNumber, badCountry, badEmpty, badWeight, badMoney, badServices, badStatus, badMain, noText, noNumber, domestic, noMoney, noMain, someMoney, someWeight, numberIn, servicesIn}
+use Rattle.record.specs.Readings.{whenOf, addressOf, contactOf, goodsOf, marksOf, pieceOf, tailOf, malformedStatus}
 
 -- ---- which fields are malformed
 abbrev pub whenFlags : When → List Bool
-whenFlags w = badDate (w .date) ∷ badTime (w .time) ∷ []
+whenFlags w = malformedDate (w .date) ∷ malformedTime (w .time) ∷ []
 
 abbrev pub addressFlags : Address → List Bool
 addressFlags a =
-    badText (a .name) ∷ badNumber (a .postcode) ∷ badCountry (a .country) ∷ badText (a .municipality)
-    ∷ badText (a .district) ∷ badText (a .street) ∷ badText (a .house) ∷ badText (a .orientation) ∷ []
+    malformedText (a .name) ∷ malformedNumber (a .postcode) ∷ malformedCountry (a .country) ∷ malformedText (a .municipality)
+    ∷ malformedText (a .district) ∷ malformedText (a .street) ∷ malformedText (a .house) ∷ malformedText (a .orientation) ∷ []
 
 abbrev pub contactFlags : Contact → List Bool
-contactFlags c = badNumber (c .telephone) ∷ badText (c .mail) ∷ badEmpty (c .empty) ∷ []
+contactFlags c = malformedNumber (c .telephone) ∷ malformedText (c .mail) ∷ malformedEmpty (c .empty) ∷ []
 
 abbrev pub goodsFlags : Bool → Goods → List Bool
-goodsFlags posting g =
-    badWeight (g .weight) ∷ badMoney (g .cash) ∷ badMoney (g .price) ∷ badServices (g .services) ∷ badStatus posting (g .status) ∷ []
+goodsFlags toBePosted g =
+    malformedWeight (g .weight) ∷ malformedMoney (g .cash) ∷ malformedMoney (g .price) ∷ malformedServices (g .services)
+    ∷ malformedStatus toBePosted (g .status) ∷ []
 
 abbrev pub marksFlags : Marks → List Bool
-marksFlags m = badText (m .machine) ∷ badNumber (m .symbol) ∷ []
+marksFlags m = malformedText (m .machine) ∷ malformedNumber (m .symbol) ∷ []
 
-abbrev pub setFlags : Set → List Bool
-setFlags s = badMain (s .main) ∷ badNumber (s .serial) ∷ badNumber (s .pieces) ∷ []
+abbrev pub pieceFlags : Piece → List Bool
+pieceFlags p = malformedMain (p .main) ∷ malformedNumber (p .serial) ∷ malformedNumber (p .pieces) ∷ []
 
 abbrev pub tailFlags : Tail → List Bool
-tailFlags t = badEmpty (t .empty) ∷ badText (t .sender) ∷ []
+tailFlags t = malformedEmpty (t .empty) ∷ malformedText (t .sender) ∷ []
+
+-- fields 2 to 14, and 15 to 26
+abbrev pub earlyFlags : When → Address → Contact → List Bool
+earlyFlags w a c = whenFlags w ++ (addressFlags a ++ contactFlags c)
+
+abbrev pub lateFlags : Bool → Goods → Marks → Piece → Tail → List Bool
+lateFlags toBePosted g m p t = goodsFlags toBePosted g ++ (marksFlags m ++ (pieceFlags p ++ tailFlags t))
 
 -- fields 2 to 26, in their order
-abbrev pub malformed : Bool → When → Address → Contact → Goods → Marks → Set → Tail → List Bool
-malformed posting w a c g m s t =
-    whenFlags w ++ (addressFlags a ++ (contactFlags c ++ (goodsFlags posting g ++ (marksFlags m ++ (setFlags s ++ tailFlags t)))))
+abbrev pub malformed : Bool → When → Address → Contact → Goods → Marks → Piece → Tail → List Bool
+malformed toBePosted w a c g m p t = earlyFlags w a c ++ lateFlags toBePosted g m p t
 
 -- ---- what the rules on money and services ask
--- which services are there; `pays` is one of 2, 4, 5 and 41
+-- which services are there; `cashService` is one of 2, 4, 5 and 41
 unfoldable pub askedOf : Services → Asked
 askedOf s = record {
-  pays = hasCode s 2 || hasCode s 4 || hasCode s 5 || hasCode s 41;
-  s7 = hasCode s 7;
-  s34 = hasCode s 34;
-  s41 = hasCode s 41;
-  s45 = hasCode s 45;
-  s46 = hasCode s 46;
-  s70 = hasCode s 70;
+  cashService = hasCode s 2 || hasCode s 4 || hasCode s 5 || hasCode s 41;
+  service7 = hasCode s 7;
+  service34 = hasCode s 34;
+  service41 = hasCode s 41;
+  service45 = hasCode s 45;
+  service46 = hasCode s 46;
+  service70 = hasCode s 70;
 }
 
--- what stands in the fields that services ask for
+-- what stands in the fields that services ask for: 16, 17, 21, 12, 13
 unfoldable pub givenOf : Contact → Goods → Marks → Given
 givenOf c g m = record {
-  cash = someMoney (g .cash);
-  blank16 = noMoney (g .cash);
-  price = someMoney (g .price);
-  blank17 = noMoney (g .price);
-  symbol = not (noNumber (m .symbol));
-  telephone = not (noNumber (c .telephone));
-  mail = not (noText (c .mail));
+  cashAbsentOrZero = absentOrZeroMoney (g .cash);
+  cashFilled = not (absentMoney (g .cash));
+  priceAbsentOrZero = absentOrZeroMoney (g .price);
+  priceFilled = not (absentMoney (g .price));
+  symbolFilled = not (absentNumber (m .symbol));
+  telephoneFilled = not (absentNumber (c .telephone));
+  mailFilled = not (absentText (c .mail));
 }
 
 -- prefixes under which several pieces may travel together
@@ -89,73 +100,82 @@ isSetPrefix a b =
     || eqb a 68 && eqb b 82  -- DR
     || eqb a 78 && eqb b 80  -- NP
 
-unfoldable pub packOf : List ℕ → Set → Pack
-packOf rec s = record {
-  prefix = isSetPrefix (getD (fieldOf rec 1) 0 0) (getD (fieldOf rec 1) 1 0);
-  main = not (noMain (s .main));
-  serial = not (noNumber (s .serial));
-  pieces = not (noNumber (s .pieces));
-  above = ltb (numberIn (s .pieces)) (numberIn (s .serial));
-  first = eqb (numberIn (s .serial)) 1;
-  own = sameBytes (fieldOf rec 22) (fieldOf rec 1);
+-- what stands in the fields of pieces that travel together: 22, 23, 24
+unfoldable pub travelOf : List ℕ → Piece → Travel
+travelOf rec p = record {
+  setPrefix = isSetPrefix (getD (fieldOf rec 1) 0 0) (getD (fieldOf rec 1) 1 0);
+  mainFilled = not (absentMain (p .main));
+  serialFilled = not (absentNumber (p .serial));
+  piecesFilled = not (absentNumber (p .pieces));
+  serialAbovePieces = ltb (numberIn (p .pieces)) (numberIn (p .serial));
+  serialIs01 = eqb (numberIn (p .serial)) 1;
+  mainIsOwn = sameBytes (fieldOf rec 22) (fieldOf rec 1);
 }
 
 -- ---- the table
-abbrev pub formOf : Bool → List ℕ → When → Address → Contact → Goods → Marks → Set → Tail → List Rule
-formOf posting rec w a c g m s t =
-    rule 1 (at 1 (not (rightId (fieldOf rec 1))) ∷ [])
-    ∷ rule 210 (placesFrom 2 (malformed posting w a c g m s t))
-    ∷ []
+-- field 1 is no right identifier
+abbrev pub identifierRule : List ℕ → Rule
+identifierRule rec = rule 1 (at 1 (not (rightId (fieldOf rec 1))) ∷ [])
+
+-- some field 2 to 26 is malformed; the lowest such
+abbrev pub malformedRule : List Bool → Rule
+malformedRule flags = rule 210 (placesFrom 2 flags)
+
+abbrev pub formOf : Bool → List ℕ → When → Address → Contact → Goods → Marks → Piece → Tail → List Rule
+formOf toBePosted rec w a c g m p t = identifierRule rec ∷ malformedRule (malformed toBePosted w a c g m p t) ∷ []
 
 abbrev pub formRules : Bool → List ℕ → List Rule
-formRules posting rec =
-    formOf posting rec (whenOf rec) (addressOf rec) (contactOf rec) (goodsOf rec) (marksOf rec) (setOf rec) (tailOf rec)
+formRules toBePosted rec =
+    formOf toBePosted rec (whenOf rec) (addressOf rec) (contactOf rec) (goodsOf rec) (marksOf rec) (pieceOf rec) (tailOf rec)
 
 -- name blank; domestic with blank postcode, or abroad with a filled one; municipality blank
 abbrev pub addressRule : Address → Rule
 addressRule a =
     rule 27
-    (at 4 (noText (a .name))
-    ∷ at 5 (domestic (a .country) && noNumber (a .postcode) || not (domestic (a .country)) && not (noNumber (a .postcode)))
-    ∷ at 7 (noText (a .municipality))
+    (at 4 (absentText (a .name))
+    ∷ at 5 (absentCountry (a .country) && absentNumber (a .postcode) || not (absentCountry (a .country)) && not (absentNumber (a .postcode)))
+    ∷ at 7 (absentText (a .municipality))
     ∷ [])
 
 -- weight absent or zero
 abbrev pub weightRule : Goods → Rule
-weightRule g = rule 34 (at 15 (not (someWeight (g .weight))) ∷ [])
+weightRule g = rule 34 (at 15 (absentOrZeroWeight (g .weight)) ∷ [])
 
-abbrev pub serviceRules : Asked → Given → Pack → List Rule
+abbrev pub serviceRules : Asked → Given → Travel → List Rule
 serviceRules s f p =
-    rule 36 (at 16 (s .pays && not (f .cash) || not (s .pays) && not (f .blank16)) ∷ [])
-    ∷ rule 11 (at 21 (s .s41 && not (f .symbol)) ∷ [])
-    ∷ rule 221 (at 21 (f .symbol && not (s .pays)) ∷ [])
-    ∷ rule 222 (at 17 (s .s7 && not (f .price) || not (s .s7) && not (f .blank17)) ∷ [])
-    ∷ rule 220 (at 18 (s .s34 && s .s45 || s .s34 && s .s46 || s .s45 && s .s46) ∷ [])
-    ∷ rule 223 (at 12 ((s .s34 || s .s45) && not (f .telephone)) ∷ at 13 ((s .s45 || s .s46) && not (f .mail)) ∷ [])
+    rule 36 (at 16 (s .cashService && f .cashAbsentOrZero || not (s .cashService) && f .cashFilled) ∷ [])
+    ∷ rule 11 (at 21 (s .service41 && not (f .symbolFilled)) ∷ [])
+    ∷ rule 221 (at 21 (f .symbolFilled && not (s .cashService)) ∷ [])
+    ∷ rule 222 (at 17 (s .service7 && f .priceAbsentOrZero || not (s .service7) && f .priceFilled) ∷ [])
+    ∷ rule 220 (at 18 (s .service34 && s .service45 || s .service34 && s .service46 || s .service45 && s .service46) ∷ [])
+    ∷ rule 223
+    (at 12 ((s .service34 || s .service45) && not (f .telephoneFilled))
+    ∷ at 13 ((s .service45 || s .service46) && not (f .mailFilled))
+    ∷ [])
     ∷ rule 72
-    (at 18 (s .s70 && not (p .prefix))
-    ∷ at 22 (s .s70 && not (p .main))
-    ∷ at 23 (s .s70 && not (p .serial))
-    ∷ at 24 (s .s70 && not (p .pieces))
-    ∷ at 23 (s .s70 && p .above)
-    ∷ at 22 (s .s70 && (p .first && not (p .own) || not (p .first) && p .own))
-    ∷ at 22 (not (s .s70) && p .main)
-    ∷ at 23 (not (s .s70) && p .serial)
-    ∷ at 24 (not (s .s70) && p .pieces)
+    (at 18 (s .service70 && not (p .setPrefix))
+    ∷ at 22 (s .service70 && not (p .mainFilled))
+    ∷ at 23 (s .service70 && not (p .serialFilled))
+    ∷ at 24 (s .service70 && not (p .piecesFilled))
+    ∷ at 23 (s .service70 && p .serialAbovePieces)
+    ∷ at 22 (s .service70 && (p .serialIs01 && not (p .mainIsOwn) || not (p .serialIs01) && p .mainIsOwn))
+    ∷ at 22 (not (s .service70) && p .mainFilled)
+    ∷ at 23 (not (s .service70) && p .serialFilled)
+    ∷ at 24 (not (s .service70) && p .piecesFilled)
     ∷ [])
     ∷ []
 
-abbrev pub contentOf : List ℕ → Address → Contact → Goods → Marks → Set → List Rule
-contentOf rec a c g m s =
-    addressRule a ∷ weightRule g ∷ serviceRules (askedOf (servicesIn (g .services))) (givenOf c g m) (packOf rec s)
+abbrev pub contentOf : List ℕ → Address → Contact → Goods → Marks → Piece → List Rule
+contentOf rec a c g m p =
+    addressRule a ∷ weightRule g ∷ serviceRules (askedOf (servicesIn (g .services))) (givenOf c g m) (travelOf rec p)
 
 abbrev pub contentRules : List ℕ → List Rule
-contentRules rec = contentOf rec (addressOf rec) (contactOf rec) (goodsOf rec) (marksOf rec) (setOf rec)
+contentRules rec = contentOf rec (addressOf rec) (contactOf rec) (goodsOf rec) (marksOf rec) (pieceOf rec)
 
 -- all eleven rules, in the paper's order
 unfoldable pub table : Bool → List ℕ → List Rule
-table posting rec = formRules posting rec ++ contentRules rec
+table toBePosted rec = formRules toBePosted rec ++ contentRules rec
 
 -- ---- the answer: 236 for another length, else the table's
 unfoldable pub recordAnswer : Bool → List ℕ → Answer
-recordAnswer posting rec = cond (eqb (length rec) 399) (verdict (table posting rec)) (answer 236 0)
+recordAnswer toBePosted rec = cond (eqb (length rec) 399) (verdict (table toBePosted rec)) wrongLength

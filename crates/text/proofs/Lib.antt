@@ -7,3 +7,4 @@ pub mod Numbers
 pub mod Decimals
 pub mod Runs
 pub mod OneOutcome
+pub mod AnswerLaws

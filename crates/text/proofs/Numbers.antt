@@ -8,9 +8,10 @@ use native.Mathlib.Nat.{pow-succ', add-zero, add-suc, mul-left-comm}
 use native.Mathlib.Omega.{arith}
 use borrow.Author.Tests.{leb-true, le-leb}
 use lib.Dec.{leb}
-use lib.ListN.{length, getD, take, length-append}
+use lib.ListN.{length, getD, take, length-append, length-take}
 use lib.Seq.{take-all, take-suc, length-take-le}
 use Rattle.text.specs.Bytes.{isDigit, every, allDigits}
+use Rattle.text.specs.Lists.{part}
 use Rattle.text.specs.Numbers.{numberAfter, numberOf, numberOfFirst, digits}
 use Rattle.text.proofs.Lists.{spelled}
 
@@ -63,6 +64,10 @@ number-append n (x ∷ xs) ys = number-append (n * 10 + (x - 48)) xs ys
 -- no more than 16 digits are the first 16
 pub few-digits : (k : ℕ) (s : List ℕ) → length s ≤ k → numberOfFirst k s ≡ numberOf s
 few-digits k s h = rw take-all
+
+-- a part of few bytes is read whole
+pub few : (s : List ℕ) (a e : ℕ) → e - a ≤ 16 → numberOfFirst 16 (part s a e) ≡ numberOf (part s a e)
+few s a e h = few-digits 16 (part s a e) (simp length-take (omega arith))
 
 -- written, then read
 pub number-digits : (w n : ℕ) → n < ten w → numberOf (digits w n) ≡ n

@@ -1,19 +1,23 @@
--- Several bytes at once: a list by its first k elements and the rest, and bytes as one number, the first the least.
+-- Several bytes at once: a test of the first k and of the rest, and bytes as one number.
 -- Assumes nothing.
-use Prim.Native.Nat.{ℕ, zero, suc, _+_, _-_, _*_, _≤_, _<_}
+use Prim.Native.Nat.{ℕ, zero, suc, _+_, _-_, _*_, _^_, _≤_, _<_}
 use mathlib.Core.Path.{_≡_, refl, sym, ap, _∙_}
-use mathlib.Core.Bool.{Bool, true, false, not, _&&_, and-true}
+use mathlib.Core.Bool.{Bool, true, false, not, _&&_}
 use mathlib.Core.List.{List, [], _∷_}
+use native.Mathlib.Numerals.{add-one}
 use native.Mathlib.Omega.{arith}
 use borrow.Author.Tests.{eq-eqb, ne-eqb, eqb-true, eqb-false, not-true, not-false}
 use lib.Dec.{eqb}
-use lib.ListN.{length, getD, take, drop}
-use lib.Seq.{drop-drop}
+use mir.Syntax.{w8}
+use mir.Val.{Fits}
+use lib.ListN.{length, getD, take, drop, replicate, length-drop}
+use lib.Seq.{drop-drop, take-all, getD-drop, drop-length}
 use Rattle.text.specs.Bytes.{every, isBlank}
+use Rattle.text.specs.Words.{lowFirst, wordOf}
 use Rattle.text.proofs.Lists.{step}
 
 -- ---- a test at each byte, k bytes at once
-every-split : (test : ℕ → Bool) (k : ℕ) (s : List ℕ) → every test s ≡ (every test (take k s) && every test (drop k s))
+pub every-split : (test : ℕ → Bool) (k : ℕ) (s : List ℕ) → every test s ≡ (every test (take k s) && every test (drop k s))
 unfolding every
 every-split test zero s = refl
 every-split test (suc k) [] = refl
@@ -42,50 +46,106 @@ low-byte b c x y h l = go (eqb b c) refl (eqb x y) refl
     go true t false u = ne-eqb (b + 256 * x) (c + 256 * y) (λ e. eqb-false x y u (omega arith))
     go false t u eu = ne-eqb (b + 256 * x) (c + 256 * y) (λ e. eqb-false b c t (omega arith))
 
--- four bytes from place i on, and then others
-four : (s : List ℕ) (i k : ℕ) → i + 4 ≤ length s → take (suc (suc (suc (suc k)))) (drop i s) ≡ getD s i 0 ∷ getD s (i + 1) 0 ∷ getD s (i + 2) 0 ∷ getD s (i + 3) 0 ∷ take k (drop (i + 4) s)
-four s i k h =
-    let one : i + 1 + 1 ≡ i + 2 = omega arith in
-    let two : i + 2 + 1 ≡ i + 3 = omega arith in
-    let three : i + 3 + 1 ≡ i + 4 = omega arith in
-    rw (step s i (omega arith), step s (i + 1) (omega arith), one, step s (i + 2) (omega arith), two, step s (i + 3) (omega arith), three)
+-- the number of k + 1 bytes from place i on, j being the next: where the list has ended, the bytes are taken as 0
+low-at : (s : List ℕ) (i j k : ℕ) → j ≡ i + 1 → lowFirst (take (suc k) (drop i s)) ≡ getD s i 0 + 256 * lowFirst (take k (drop j s))
+unfolding lowFirst
+low-at s i j k e = rw (e, add-one) (on s i k)
+  where
+    on : (s : List ℕ) (i k : ℕ) → lowFirst (take (suc k) (drop i s)) ≡ getD s i 0 + 256 * lowFirst (take k (drop (suc i) s))
+    on [] zero zero = refl
+    on [] zero (suc k) = refl
+    on [] (suc i) zero = refl
+    on [] (suc i) (suc k) = refl
+    on (x ∷ s) zero k = refl
+    on (x ∷ s) (suc i) k = on s i k
 
-module _ (s : List ℕ) (i a b c d : ℕ) (ea : (a ≡ getD s i 0) × (a < 256)) (eb : (b ≡ getD s (i + 1) 0) × (b < 256)) (ec : (c ≡ getD s (i + 2) 0) × (c < 256)) (ed : (d ≡ getD s (i + 3) 0) × (d < 256)) where
-  pub blank4-is : i + 4 ≤ length s → eqb (a + b * 256 + c * 65536 + d * 16777216) 538976288 ≡ isBlank (take 4 (drop i s))
-  unfolding every
-  blank4-is h =
-      let nested : a + b * 256 + c * 65536 + d * 16777216 ≡ a + 256 * (b + 256 * (c + 256 * (d + 256 * 0))) = omega arith in
-      rw (four s i 0 h, ← ea .0, ← eb .0, ← ec .0, ← ed .0, nested)
-      (low-byte a 32 (b + 256 * (c + 256 * (d + 256 * 0))) 2105376 (ea .1) (omega arith)
-      ∙ rw (low-byte b 32 (c + 256 * (d + 256 * 0)) 8224 (eb .1) (omega arith), low-byte c 32 (d + 256 * 0) 32 (ec .1) (omega arith), low-byte d 32 0 0 (ed .1) (omega arith)))
+-- ---- word: the sum of eight bytes
+module _ (s : List ℕ) (a b c d e f g k : ℕ) (ea : (a ≡ getD s 0 0) × (a < 256)) (eb : (b ≡ getD s 1 0) × (b < 256)) (ec : (c ≡ getD s 2 0) × (c < 256)) (ed : (d ≡ getD s 3 0) × (d < 256))
+    (ee : (e ≡ getD s 4 0) × (e < 256)) (ef : (f ≡ getD s 5 0) × (f < 256)) (eg : (g ≡ getD s 6 0) × (g < 256)) (ek : (k ≡ getD s 7 0) × (k < 256)) where
+  pub word-is : a + b * 256 + c * 65536 + d * 16777216 + e * 4294967296 + f * 1099511627776 + g * 281474976710656 + k * 72057594037927936 ≡ wordOf s
+  unfolding lowFirst
+  word-is = omega (arith, low-at s 0 1 7 refl, low-at s 1 2 6 refl, low-at s 2 3 5 refl, low-at s 3 4 4 refl, low-at s 4 5 3 refl, low-at s 5 6 2 refl, low-at s 6 7 1 refl, low-at s 7 8 0 refl)
 
-module _ (s : List ℕ) (i a b c d e f g k : ℕ) (ea : (a ≡ getD s i 0) × (a < 256)) (eb : (b ≡ getD s (i + 1) 0) × (b < 256)) (ec : (c ≡ getD s (i + 2) 0) × (c < 256)) (ed : (d ≡ getD s (i + 3) 0) × (d < 256))
-    (ee : (e ≡ getD s (i + 4) 0) × (e < 256)) (ef : (f ≡ getD s (i + 5) 0) × (f < 256)) (eg : (g ≡ getD s (i + 6) 0) × (g < 256)) (ek : (k ≡ getD s (i + 7) 0) × (k < 256)) where
-  -- the last four bytes
-  upper : i + 8 ≤ length s → take 4 (drop (i + 4) s) ≡ e ∷ f ∷ g ∷ k ∷ []
-  upper h =
-      let one : i + 4 + 1 ≡ i + 5 = omega arith in
-      let two : i + 4 + 2 ≡ i + 6 = omega arith in
-      let three : i + 4 + 3 ≡ i + 7 = omega arith in
-      rw (four s (i + 4) 0 (omega arith), one, two, three, ← ee .0, ← ef .0, ← eg .0, ← ek .0)
+-- ---- short_word: byte by byte, from the last
+-- how many numbers k bytes can write
+unfoldable pub reach : ℕ → ℕ
+reach zero = 1
+reach (suc k) = 256 * reach k
 
-  pub eight : i + 8 ≤ length s → take 8 (drop i s) ≡ a ∷ b ∷ c ∷ d ∷ e ∷ f ∷ g ∷ k ∷ []
-  eight h = rw (four s i 4 (omega arith), upper h, ← ea .0, ← eb .0, ← ec .0, ← ed .0)
+reach-grows : (j k : ℕ) → j ≤ k → reach j ≤ reach k
+unfolding reach
+reach-grows zero zero h = omega arith
+reach-grows zero (suc k) h = omega (arith, reach-grows zero k (omega arith))
+reach-grows (suc j) zero h = absurd (omega arith)
+reach-grows (suc j) (suc k) h = omega (arith, reach-grows j k (omega arith))
 
-  pub blank8-is : i + 8 ≤ length s
-      → eqb (a + b * 256 + c * 65536 + d * 16777216 + e * 4294967296 + f * 1099511627776 + g * 281474976710656 + k * 72057594037927936) 2314885530818453536 ≡ isBlank (take 8 (drop i s))
-  unfolding every
-  blank8-is h =
-      let nested : a + b * 256 + c * 65536 + d * 16777216 + e * 4294967296 + f * 1099511627776 + g * 281474976710656 + k * 72057594037927936
-      ≡ a + 256 * (b + 256 * (c + 256 * (d + 256 * (e + 256 * (f + 256 * (g + 256 * (k + 256 * 0))))))) = omega arith in
-      rw (eight h, nested)
-      (low-byte a 32 (b + 256 * (c + 256 * (d + 256 * (e + 256 * (f + 256 * (g + 256 * (k + 256 * 0))))))) 9042521604759584 (ea .1) (omega arith)
-      ∙ rw (
-        low-byte b 32 (c + 256 * (d + 256 * (e + 256 * (f + 256 * (g + 256 * (k + 256 * 0)))))) 35322350018592 (eb .1) (omega arith),
-        low-byte c 32 (d + 256 * (e + 256 * (f + 256 * (g + 256 * (k + 256 * 0))))) 137977929760 (ec .1) (omega arith),
-        low-byte d 32 (e + 256 * (f + 256 * (g + 256 * (k + 256 * 0)))) 538976288 (ed .1) (omega arith),
-        low-byte e 32 (f + 256 * (g + 256 * (k + 256 * 0))) 2105376 (ee .1) (omega arith),
-        low-byte f 32 (g + 256 * (k + 256 * 0)) 8224 (ef .1) (omega arith),
-        low-byte g 32 (k + 256 * 0) 32 (eg .1) (omega arith),
-        low-byte k 32 0 0 (ek .1) (omega arith),
-      ))
+pub short-start : (s : List ℕ) → 0 ≡ lowFirst (drop (length s) s)
+unfolding lowFirst
+short-start s = rw drop-length
+
+pub short-first : (s : List ℕ) → 0 < reach (length s - length s)
+unfolding reach
+short-first s =
+    let none : length s - length s ≡ 0 = omega arith in
+    rw none (omega arith)
+
+module _ (s : List ℕ) (short : length s < 8) (n i : ℕ) (within : i ≤ length s) (small : n < reach (length s - i)) where
+  -- there is room for a byte more
+  pub short-fits : 0 < i → (b : ℕ) → (b ≡ getD s (i - 1) 0) × (b < 256) → n * 256 + b < 2 ^ 64
+  unfolding reach
+  short-fits some b eb = omega (arith, reach-grows (length s - i) 6 (omega arith))
+
+  pub short-shifts : 0 < i → n * 256 < 2 ^ 64
+  unfolding reach
+  short-shifts some = omega (arith, reach-grows (length s - i) 6 (omega arith))
+
+  pub short-below : n < 2 ^ 64
+  unfolding reach
+  short-below = omega (arith, reach-grows (length s - i) 7 (omega arith))
+
+  pub short-small : 0 < i → (b : ℕ) → (b ≡ getD s (i - 1) 0) × (b < 256) → n * 256 + b < reach (length s - (i - 1))
+  unfolding reach
+  short-small some b eb =
+      let more : length s - (i - 1) ≡ suc (length s - i) = omega arith in
+      rw more (omega arith)
+
+  pub short-on : n ≡ lowFirst (drop i s) → 0 < i → (b : ℕ) → (b ≡ getD s (i - 1) 0) × (b < 256) → n * 256 + b ≡ lowFirst (drop (i - 1) s)
+  unfolding lowFirst
+  short-on known some b eb =
+      let back : i - 1 + 1 ≡ i = omega arith in
+      rw (step s (i - 1) (omega arith), back, ← eb .0, ← known) (omega arith)
+
+  pub short-is : n ≡ lowFirst (drop i s) → i ≤ 0 → n ≡ wordOf s
+  short-is known none =
+      let z : i ≡ 0 = omega arith in
+      known ∙ rw z (ap lowFirst (sym (take-all 8 s (omega arith))))
+
+-- ---- spaces told by one number
+-- what is known of each lent slice of bytes
+abbrev pub AreBytes : List ℕ → Type 0
+AreBytes s = (j : ℕ) → Fits w8 (getD s j 0)
+
+pub bytes-behind : (s : List ℕ) (i : ℕ) → AreBytes s → AreBytes (drop i s)
+bytes-behind s i each j = rw getD-drop (each (i + j))
+
+-- the first k bytes are spaces exactly where their number is that of k spaces
+blank-told : (k : ℕ) (s : List ℕ) → k ≤ length s → AreBytes s → eqb (lowFirst (take k s)) (lowFirst (replicate k 32)) ≡ isBlank (take k s)
+unfolding lowFirst every
+blank-told zero s h each = refl
+blank-told (suc k) [] h each = absurd (omega arith)
+blank-told (suc k) (b ∷ s) h each =
+    low-byte b 32 (lowFirst (take k s)) (lowFirst (replicate k 32)) (omega (arith, each 0)) (omega arith)
+    ∙ ap (λ (t : Bool). eqb b 32 && t) (blank-told k s (omega arith) (λ j. each (suc j)))
+
+pub blank8-is : (s : List ℕ) (i w : ℕ) → (w ≡ wordOf (take (length s - i) (drop i s))) × (w < 2 ^ 64) → i + 8 ≤ length s → AreBytes s → eqb w 2314885530818453536 ≡ isBlank (take 8 (drop i s))
+unfolding lowFirst
+blank8-is s i w ew h each =
+    rw (ew .0, take-all (length s - i) (drop i s) (simp length-drop (omega arith)))
+    (blank-told 8 (drop i s) (simp length-drop (omega arith)) (bytes-behind s i each))
+
+pub blank4-is : (s : List ℕ) (i a b c d : ℕ) → (a ≡ getD s i 0) × (a < 256) → (b ≡ getD s (i + 1) 0) × (b < 256) → (c ≡ getD s (i + 2) 0) × (c < 256) → (d ≡ getD s (i + 3) 0) × (d < 256)
+    → i + 4 ≤ length s → AreBytes s → eqb (a + b * 256 + c * 65536 + d * 16777216) 538976288 ≡ isBlank (take 4 (drop i s))
+unfolding lowFirst
+blank4-is s i a b c d ea eb ec ed h each =
+    let sum : a + b * 256 + c * 65536 + d * 16777216 ≡ lowFirst (take 4 (drop i s)) = omega (arith, low-at s i (i + 1) 3 refl, low-at s (i + 1) (i + 2) 2 (omega arith), low-at s (i + 2) (i + 3) 1 (omega arith), low-at s (i + 3) (i + 4) 0 (omega arith)) in
+    rw sum (blank-told 4 (drop i s) (simp length-drop (omega arith)) (bytes-behind s i each))

@@ -1,4 +1,4 @@
--- Parts of a list, and lists compared.
+-- Parts of a list, lists joined and summed, and lists compared.
 use Prim.Native.Nat.{ℕ, _+_, _-_}
 use mathlib.Core.Bool.{Bool, true, false, _&&_}
 use mathlib.Core.List.{List, [], _∷_, _++_}
@@ -19,3 +19,12 @@ sameBytes [] [] = true
 sameBytes [] (y ∷ ys) = false
 sameBytes (x ∷ xs) [] = false
 sameBytes (x ∷ xs) (y ∷ ys) = eqb x y && sameBytes xs ys
+
+abbrev pub sum : List ℕ → ℕ
+sum [] = 0
+sum (n ∷ ns) = n + sum ns
+
+-- one list behind the other
+abbrev pub joined : {A : Type 0} → List (List A) → List A
+joined [] = []
+joined (s ∷ ss) = s ++ joined ss

@@ -1,16 +1,36 @@
 // What all parts share: the answer, byte classes, digits and the numbers that they write.
 ghost use mathlib.Core.Path.{_≡_};
-ghost use Prim.Native.Nat.{_+_, _-_, _≤_, _<_};
+ghost use Prim.Native.Nat.{_+_, _-_, _^_, _≤_, _<_};
 ghost use lib.ListN.{length, take, drop, replicate};
 ghost use Rattle.text.specs.Promises.{Gives, GivesWithin};
+ghost use Rattle.text.specs.Answers.{orElse};
 ghost use Rattle.text.specs.Bytes.{isDigit, isCapital, allDigits, isBlank, run};
 ghost use Rattle.text.specs.Lists.{sameBytes};
 ghost use Rattle.text.specs.Numbers.{numberOfFirst, digits, places};
+ghost use Rattle.text.specs.Words.{wordOf};
 
 // What a call answers: the paper's code and place; 0 and 0 where it accepts.
 pub struct Answer {
     pub code: u32,
     pub place: u32,
+}
+
+// An accepted call answers code 0, place 0.
+pub const ACCEPTED: Answer = Answer { code: 0, place: 0 };
+
+// A lent part or a record that has not the length it is to have.
+pub const WRONG_LENGTH: Answer = Answer {
+    code: 236,
+    place: 0,
+};
+
+impl Answer {
+    // This answer, where it refuses, else the other.
+    pub fn or_else(self, other: Answer) -> Answer
+        ensures { λ r. ⌜ Gives (orElse self other) r ⌝ }
+    {
+        if self.code == 0 { other } else { self }
+    }
 }
 
 pub fn is_digit(b: u8) -> bool
@@ -44,20 +64,43 @@ fn wide(b: u8) -> u64
     b as u64
 }
 
-// Eight spaces from place i on. The compiler makes one comparison of the sum.
+// The word of fewer than eight bytes.
+fn short_word(s: &[u8]) -> u64
+    requires { ⌜ length (now s) < 8 ⌝ }
+    ensures { λ r. ⌜ (r ≡ wordOf (now (s .entry))) × (r < 2 ^ 64) ⌝ }
+{
+    let mut n: u64 = 0;
+    let mut i = s.len();
+    while 0 < i {
+        i -= 1;
+        n = n * 256 + wide(s[i]);
+    }
+    n
+}
+
+// The first eight bytes as one number, the first the least; where there are fewer, those that are there. The compiler makes one load of the sum.
+pub fn word(s: &[u8]) -> u64
+    ensures { λ r. ⌜ GivesWithin (wordOf (now (s .entry))) (λ n. n < 2 ^ 64) r ⌝ }
+{
+    if s.len() < 8 {
+        return short_word(s);
+    }
+    wide(s[0])
+        + wide(s[1]) * 0x100
+        + wide(s[2]) * 0x1_0000
+        + wide(s[3]) * 0x100_0000
+        + wide(s[4]) * 0x1_0000_0000
+        + wide(s[5]) * 0x100_0000_0000
+        + wide(s[6]) * 0x1_0000_0000_0000
+        + wide(s[7]) * 0x100_0000_0000_0000
+}
+
+// Whether eight spaces stand from place i on, told by one comparison.
 fn blank8(s: &[u8], i: usize) -> bool
     requires { ⌜ i + 8 ≤ length (now s) ⌝ }
     ensures { λ r. ⌜ r ≡ isBlank (take 8 (drop i (now (s .entry)))) ⌝ }
 {
-    wide(s[i])
-        + wide(s[i + 1]) * 256
-        + wide(s[i + 2]) * 65_536
-        + wide(s[i + 3]) * 16_777_216
-        + wide(s[i + 4]) * 4_294_967_296
-        + wide(s[i + 5]) * 1_099_511_627_776
-        + wide(s[i + 6]) * 281_474_976_710_656
-        + wide(s[i + 7]) * 72_057_594_037_927_936
-        == 2_314_885_530_818_453_536
+    word(&s[i..]) == 0x2020_2020_2020_2020
 }
 
 // Four likewise.
@@ -65,8 +108,8 @@ fn blank4(s: &[u8], i: usize) -> bool
     requires { ⌜ i + 4 ≤ length (now s) ⌝ }
     ensures { λ r. ⌜ r ≡ isBlank (take 4 (drop i (now (s .entry)))) ⌝ }
 {
-    wide(s[i]) + wide(s[i + 1]) * 256 + wide(s[i + 2]) * 65_536 + wide(s[i + 3]) * 16_777_216
-        == 538_976_288
+    wide(s[i]) + wide(s[i + 1]) * 0x100 + wide(s[i + 2]) * 0x1_0000 + wide(s[i + 3]) * 0x100_0000
+        == 0x2020_2020
 }
 
 pub fn blank(s: &[u8]) -> bool

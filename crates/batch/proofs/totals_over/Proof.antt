@@ -24,17 +24,23 @@ mul-a c = search needs
 add-e : tie.Need-add-e Inv-loop μ-loop
 add-e c = search needs
 
-sub-count-record : tie.Need-sub-count-record Inv-loop μ-loop
-sub-count-record c = search needs
+sub-brought : tie.Need-sub-brought Inv-loop μ-loop
+sub-brought c = search needs
 
-part-count-record-start : tie.Need-part-count-record-start Inv-loop μ-loop
-part-count-record-start c = search needs
+part-brought-start : tie.Need-part-brought-start Inv-loop μ-loop
+part-brought-start c = search needs
 
-part-count-record-end : tie.Need-part-count-record-end Inv-loop μ-loop
-part-count-record-end c = search needs
+part-brought-end : tie.Need-part-brought-end Inv-loop μ-loop
+part-brought-end c = search needs
 
-count-record-requires : tie.Need-count-record-requires Inv-loop μ-loop
-count-record-requires c κs = search needs
+brought-requires : tie.Need-brought-requires Inv-loop μ-loop
+brought-requires c κs = search needs
+
+plus-requires : tie.Need-plus-requires Inv-loop μ-loop
+plus-requires c κs = search needs
+
+total-or-requires : tie.Need-total-or-requires Inv-loop μ-loop
+total-or-requires c κs = search needs
 
 add-i : tie.Need-add-i Inv-loop μ-loop
 add-i c = search needs
@@ -57,10 +63,12 @@ totals-over-spec =
     loop-holds
     mul-a
     add-e
-    sub-count-record
-    part-count-record-start
-    part-count-record-end
-    count-record-requires
+    sub-brought
+    part-brought-start
+    part-brought-end
+    brought-requires
+    plus-requires
+    total-or-requires
     add-i
     loop-less
     loop-again

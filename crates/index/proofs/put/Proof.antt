@@ -2,18 +2,24 @@
 -- Assumes nothing.
 use borrow.Author.Needs.{needs}
 use native.Mathlib.Omega.{arith}
-use Rattle.index.proofs.Ways.{put-there, put-gives, put-small, put-indexed}
+use Rattle.index.proofs.Ways.{put-inside, put-keyless, put-full, put-large, put-noted}
 use Rattle.index.proofs.put.Statement.{statement}
 use Rattle.index.proofs.put.Tie as tie
 
+has-key-requires : tie.Need-has-key-requires
+has-key-requires c κs = search needs
+
+returns : tie.Need-returns
+returns c = search put-keyless
+
 mul-a : tie.Need-mul-a
-mul-a c = search needs
+mul-a c = omega (arith, put-inside _ _ _ _ (c .before .has-key .ensures) (c .if1 .left))
 
 add-a : tie.Need-add-a
-add-a c = search needs
+add-a c = omega (arith, put-inside _ _ _ _ (c .before .has-key .ensures) (c .if1 .left))
 
 add-e : tie.Need-add-e
-add-e c = search needs
+add-e c = omega (arith, put-inside _ _ _ _ (c .before .has-key .ensures) (c .if1 .left))
 
 sub-slot-of : tie.Need-sub-slot-of
 sub-slot-of c = search needs
@@ -22,19 +28,32 @@ part-slot-of-start : tie.Need-part-slot-of-start
 part-slot-of-start c = search needs
 
 part-slot-of-end : tie.Need-part-slot-of-end
-part-slot-of-end c = search needs
+part-slot-of-end c = search put-inside
 
 slot-of-requires : tie.Need-slot-of-requires
 slot-of-requires c κs = search needs
 
-mul-place : tie.Need-mul-place
-mul-place c = search needs
+same-length : tie.Need-same-length
+same-length c = search needs
 
-slice-read-place : tie.Need-slice-read-place
-slice-read-place c = search put-there
+returns-2 : tie.Need-returns-2
+returns-2 c = search put-full
 
-place-requires : tie.Need-place-requires
-place-requires c κs = search needs
+mul-named : tie.Need-mul-named
+mul-named c = search needs
+
+slice-read-named : tie.Need-slice-read-named
+slice-read-named c = search needs
+
+named-requires : tie.Need-named-requires
+named-requires c κs = search needs
+
+same-length-2 : tie.Need-same-length-2
+same-length-2 c = search needs
+
+returns-3 : tie.Need-returns-3
+returns-3 c =
+    put-large _ _ _ _ _ (c .before .before .before .before .before .before .before .before .has-key .ensures) (c .before .before .before .before .before .before .before .if1 .left) _ (c .before .before .before .before .slot-of .ensures) _ (c .before .named .ensures) (c .if3 .taken)
 
 add-table : tie.Need-add-table
 add-table c = search needs
@@ -46,18 +65,20 @@ mul-table : tie.Need-mul-table
 mul-table c = search needs
 
 slice-write-table : tie.Need-slice-write-table
-slice-write-table c = search put-there
+slice-write-table c = search needs
 
-same-length : tie.Need-same-length
-same-length c = search needs
+same-length-3 : tie.Need-same-length-3
+same-length-3 c = search needs
 
-returns : tie.Need-returns
-returns c = (search put-gives, search put-small, search put-indexed)
+returns-4 : tie.Need-returns-4
+returns-4 c = search put-noted
 
 pub put-spec : {M : Type 1} → statement M
 put-spec =
     tie.close
     (tie.spec
+    has-key-requires
+    returns
     mul-a
     add-a
     add-e
@@ -65,12 +86,16 @@ put-spec =
     part-slot-of-start
     part-slot-of-end
     slot-of-requires
-    mul-place
-    slice-read-place
-    place-requires
+    same-length
+    returns-2
+    mul-named
+    slice-read-named
+    named-requires
+    same-length-2
+    returns-3
     add-table
     cast-table
     mul-table
     slice-write-table
-    same-length
-    returns)
+    same-length-3
+    returns-4)

@@ -2,37 +2,40 @@
 -- Assumes nothing.
 use borrow.Author.Needs.{needs}
 use native.Mathlib.Omega.{arith}
-use mathlib.Core.Path.{_≡_, refl}
+use mathlib.Core.Path.{_≡_}
 use Prim.Native.Nat.{_≤_, _<_}
 use lib.ListN.{length}
-use Rattle.index.specs.Index.{hashOf, slotFrom}
-use Rattle.index.proofs.Ways.{hashed, inside, walk-free, walk-found, walk-on, walk-out}
+use Rattle.index.specs.Index.{slotFrom, slotOf}
+use Rattle.index.proofs.Ways.{walk-none, walk-start, walk-inside, walk-free, walk-found, walk-on, walk-out}
 use Rattle.index.proofs.slot_of.Statement.{statement}
 use Rattle.index.proofs.slot_of.Tie as tie
 
 abbrev Inv-loop : tie.InvT-loop
-Inv-loop table file from n key m s₀ left₀ s left = (s < length table) × (left ≤ length table) × (slotFrom (length table) table file from key left s ≡ slotFrom (length table) table file from key (length table) (hashOf (length table) key))
+Inv-loop table file from key m s₀ left₀ s left = (s < length table) × (left ≤ length table) × (slotFrom (length table) table file from key left s ≡ slotOf table file from key)
 
 abbrev μ-loop : tie.MeasureT-loop
-μ-loop table file from n key m s₀ left₀ s left = left
+μ-loop table file from key m s₀ left₀ s left = left
+
+returns : tie.Need-returns Inv-loop μ-loop
+returns c = (search walk-none, omega arith)
 
 hash-requires : tie.Need-hash-requires Inv-loop μ-loop
 hash-requires c κs = search needs
 
 loop-holds : tie.Need-loop-holds Inv-loop μ-loop
-loop-holds c = (search needs, omega arith, search hashed)
+loop-holds c = (search needs, omega arith, search walk-start)
 
-mul-place : tie.Need-mul-place Inv-loop μ-loop
-mul-place c = search needs
+mul-named : tie.Need-mul-named Inv-loop μ-loop
+mul-named c = search needs
 
-shared-slice-read-place : tie.Need-shared-slice-read-place Inv-loop μ-loop
-shared-slice-read-place c = search needs
+shared-slice-read-named : tie.Need-shared-slice-read-named Inv-loop μ-loop
+shared-slice-read-named c = search needs
 
-place-requires : tie.Need-place-requires Inv-loop μ-loop
-place-requires c κs = search needs
+named-requires : tie.Need-named-requires Inv-loop μ-loop
+named-requires c κs = search needs
 
-returns : tie.Need-returns Inv-loop μ-loop
-returns c = (search walk-free, omega arith)
+returns-2 : tie.Need-returns-2 Inv-loop μ-loop
+returns-2 c = (search walk-free, omega arith)
 
 sub-a : tie.Need-sub-a Inv-loop μ-loop
 sub-a c = search needs
@@ -41,10 +44,10 @@ mul-a : tie.Need-mul-a Inv-loop μ-loop
 mul-a c = search needs
 
 add-a : tie.Need-add-a Inv-loop μ-loop
-add-a c = search needs
+add-a c = omega (arith, walk-inside _ _ _ _ (c .before .named .ensures) (c .if2 .left))
 
 add-e : tie.Need-add-e Inv-loop μ-loop
-add-e c = search needs
+add-e c = omega (arith, walk-inside _ _ _ _ (c .before .named .ensures) (c .if2 .left))
 
 sub-same : tie.Need-sub-same Inv-loop μ-loop
 sub-same c = search needs
@@ -53,16 +56,16 @@ part-same-start : tie.Need-part-same-start Inv-loop μ-loop
 part-same-start c = search needs
 
 part-same-end : tie.Need-part-same-end Inv-loop μ-loop
-part-same-end c = search inside
+part-same-end c = walk-inside _ _ _ _ (c .before .named .ensures) (c .if2 .left)
 
 same-requires : tie.Need-same-requires Inv-loop μ-loop
 same-requires c κs = search needs
 
-returns-2 : tie.Need-returns-2 Inv-loop μ-loop
-returns-2 c = (search walk-found, omega arith)
+returns-3 : tie.Need-returns-3 Inv-loop μ-loop
+returns-3 c = (search walk-found, omega arith)
 
-behind-requires : tie.Need-behind-requires Inv-loop μ-loop
-behind-requires c κs = search needs
+next-requires : tie.Need-next-requires Inv-loop μ-loop
+next-requires c κs = search needs
 
 sub-left : tie.Need-sub-left Inv-loop μ-loop
 sub-left c = search needs
@@ -73,8 +76,8 @@ loop-less c = search needs
 loop-again : tie.Need-loop-again Inv-loop μ-loop
 loop-again c = (search needs, omega arith, search walk-on)
 
-returns-3 : tie.Need-returns-3 Inv-loop μ-loop
-returns-3 c = (search walk-out, omega arith)
+returns-4 : tie.Need-returns-4 Inv-loop μ-loop
+returns-4 c = (search walk-out, omega arith)
 
 pub slot-of-spec : {M : Type 1} → statement M
 slot-of-spec =
@@ -82,12 +85,13 @@ slot-of-spec =
     (tie.spec
     Inv-loop
     μ-loop
+    returns
     hash-requires
     loop-holds
-    mul-place
-    shared-slice-read-place
-    place-requires
-    returns
+    mul-named
+    shared-slice-read-named
+    named-requires
+    returns-2
     sub-a
     mul-a
     add-a
@@ -96,9 +100,9 @@ slot-of-spec =
     part-same-start
     part-same-end
     same-requires
-    returns-2
-    behind-requires
+    returns-3
+    next-requires
     sub-left
     loop-less
     loop-again
-    returns-3)
+    returns-4)

@@ -1,21 +1,21 @@
--- `kcheck::print_report` meets its contract: the line that is written is within the buffer.
+-- `kcheck::print_report` meets its contract: the buffer has room for every line, and the line that is written is within it.
 -- Assumes nothing.
 use borrow.Author.Needs.{needs}
-use Rattle.posting.proofs.ReportWays.{report-within, report-front}
+use Rattle.posting.proofs.ReportWays.{line-within, line-front}
 use Rattle.kcheck.proofs.print_report.Statement.{statement}
 use Rattle.kcheck.proofs.print_report.Tie as tie
 
-slice-aggregate-report-input : tie.Need-slice-aggregate-report-input
-slice-aggregate-report-input c = search needs
+slice-aggregate-put-line : tie.Need-slice-aggregate-put-line
+slice-aggregate-put-line c = search needs
 
-report-input-requires : tie.Need-report-input-requires
-report-input-requires c κs = search needs
+put-line-requires : tie.Need-put-line-requires
+put-line-requires c κs = search needs
 
 array-share-prefix-line : tie.Need-array-share-prefix-line
-array-share-prefix-line c = search report-within
+array-share-prefix-line c = search line-within
 
 slice-aggregate-write-all : tie.Need-slice-aggregate-write-all
-slice-aggregate-write-all c = search report-front
+slice-aggregate-write-all c = search line-front
 
 write-all-requires : tie.Need-write-all-requires
 write-all-requires c κs = search needs
@@ -36,8 +36,8 @@ pub print-report-spec : {M : Type 1} → statement M
 print-report-spec =
     tie.close
     (tie.spec
-    slice-aggregate-report-input
-    report-input-requires
+    slice-aggregate-put-line
+    put-line-requires
     array-share-prefix-line
     slice-aggregate-write-all
     write-all-requires

@@ -3,17 +3,17 @@
 use borrow.Author.Needs.{needs}
 use native.Mathlib.Omega.{arith}
 use mathlib.Core.Path.{_≡_, refl, _∙_}
-use Prim.Native.Nat.{_+_, _-_, _/_, _≤_, _<_}
+use Prim.Native.Nat.{_-_, _/_, _≤_}
 use lib.ListN.{length}
 use Rattle.posting.specs.File.{totalsOver}
-use Rattle.index.specs.Index.{Indexed}
+use Rattle.index.specs.Laws.{Indexed}
 use Rattle.posting.proofs.Amounts.{totals-small}
 use Rattle.posting.proofs.Ways.{Unbroken, unbroken-start, file-breaks, file-on, file-passes, totals-start, totals-on}
 use Rattle.posting.proofs.checked.Statement.{statement}
 use Rattle.posting.proofs.checked.Tie as tie
 
 abbrev Inv-loop : tie.InvT-loop
-Inv-loop file table₀ n totals₀ i₀ table totals i = (i ≤ length file / 401) × (totals ≡ totalsOver file i) × (Unbroken file i) × (Indexed file 0 (length table) i table) × (length table ≡ length table₀)
+Inv-loop file table₀ n totals₀ i₀ table totals i = (i ≤ length file / 401) × (totals ≡ totalsOver file i) × (Unbroken file i) × (Indexed file 0 i table) × (length table ≡ length table₀)
 
 abbrev μ-loop : tie.MeasureT-loop
 μ-loop file table₀ n totals₀ i₀ table totals i = length file / 401 - i

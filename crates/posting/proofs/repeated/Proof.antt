@@ -1,8 +1,7 @@
 -- `posting::repeated` meets its contract.
 -- Assumes nothing.
 use borrow.Author.Needs.{needs}
-use native.Mathlib.Omega.{arith}
-use Rattle.posting.proofs.Ways.{repeated-is, next-noted}
+use Rattle.posting.proofs.Ways.{repeated-is, now-noted}
 use Rattle.posting.proofs.repeated.Statement.{statement}
 use Rattle.posting.proofs.repeated.Tie as tie
 
@@ -13,7 +12,7 @@ same-length : tie.Need-same-length
 same-length c = search needs
 
 returns : tie.Need-returns
-returns c = (search repeated-is, record { noted = search next-noted; long = search needs })
+returns c = (search repeated-is, search now-noted)
 
 pub repeated-spec : {M : Type 1} → statement M
 repeated-spec = tie.close (tie.spec put-requires same-length returns)

@@ -2,7 +2,6 @@
 -- Assumes nothing.
 use borrow.Author.Needs.{needs}
 use Rattle.record.proofs.Ways.{record-judged}
-use borrow.Author.Needs.{needs}
 use Rattle.record.proofs.judged.Statement.{statement}
 use Rattle.record.proofs.judged.Tie as tie
 
@@ -21,8 +20,8 @@ read-goods-requires c κs = search needs
 read-marks-requires : tie.Need-read-marks-requires
 read-marks-requires c κs = search needs
 
-read-set-requires : tie.Need-read-set-requires
-read-set-requires c κs = search needs
+read-piece-requires : tie.Need-read-piece-requires
+read-piece-requires c κs = search needs
 
 read-tail-requires : tie.Need-read-tail-requires
 read-tail-requires c κs = search needs
@@ -33,8 +32,8 @@ form-answer-requires c κs = search needs
 content-answer-requires : tie.Need-content-answer-requires
 content-answer-requires c κs = search needs
 
-first-of-requires : tie.Need-first-of-requires
-first-of-requires c κs = search needs
+or-else-requires : tie.Need-or-else-requires
+or-else-requires c κs = search needs
 
 returns : tie.Need-returns
 returns c = search record-judged
@@ -48,9 +47,9 @@ judged-spec =
     read-contact-requires
     read-goods-requires
     read-marks-requires
-    read-set-requires
+    read-piece-requires
     read-tail-requires
     form-answer-requires
     content-answer-requires
-    first-of-requires
+    or-else-requires
     returns)

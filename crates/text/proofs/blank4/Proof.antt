@@ -57,7 +57,7 @@ add-result-3 : tie.Need-add-result-3
 add-result-3 c = search needs
 
 returns : tie.Need-returns
-returns c = blank4-is _ _ _ _ _ _ (c .before .before .before .before .before .before .wide .ensures) (c .before .before .before .before .wide2 .ensures) (c .before .before .wide3 .ensures) (c .wide4 .ensures) (c .before .before .before .before .before .before .before .before .before .pre)
+returns c = search (blank4-is, c .before .shared-slice-known5 .given)
 
 pub blank4-spec : {M : Type 1} → statement M
 blank4-spec =

@@ -1,0 +1,59 @@
+-- Demand 3 for C: a run of the batch's functions, each given the buffers and the counts that the last one left; and refusals.
+-- Both are shown in `proofs/Demand`.
+-- Assumes nothing.
+use Prim.Native.Nat.{ℕ}
+use mathlib.Core.Path.{_≡_}
+use mathlib.Core.List.{List, [], _∷_, map}
+use Rattle.text.specs.declared.Answer.{Answer}
+use Rattle.text.specs.Answers.{answer, accepted}
+use Rattle.batch.specs.Batch.{Batch, batchOf, noCounts, Call, Open}
+use Rattle.batch.specs.History.{made, standingByRules, answersByRules}
+use Rattle.batch.specs.Demand.{givenTo}
+use Rattle.fuganorezi.specs.declared.BatchCounts.{BatchCounts}
+use Rattle.fuganorezi.specs.declared.BatchOutcome.{BatchOutcome}
+use Rattle.fuganorezi.specs.Calls.{countsIn, countsOut, BatchCalled}
+
+-- ---- what the caller holds between two calls, and the batch that it stands for
+pub record CallersBatch : Type 0 where
+  pub file : List ℕ
+  pub journal : List ℕ
+  pub counts : BatchCounts
+
+abbrev pub batchIn : CallersBatch → Batch
+batchIn s = batchOf (s .file) (s .journal) (countsIn (s .counts))
+
+-- code and place as numbers
+abbrev pub answerIn : BatchOutcome → Answer
+answerIn r = answer (r .code) (r .place)
+
+-- ---- a run of calls
+-- an outcome that keeps the promise of the function for C: the buffers that it leaves
+pub record PromisedInC (s : CallersBatch) (call : Call) (r : BatchOutcome) : Type 0 where
+  pub file : List ℕ
+  pub journal : List ℕ
+  pub promised : BatchCalled (givenTo call (batchIn s)) call r file journal
+
+abbrev pub leftInC : {s : CallersBatch} {call : Call} {r : BatchOutcome} → PromisedInC s call r → CallersBatch
+leftInC {s} {call} {r} o = record { file = o .file; journal = o .journal; counts = r .counts }
+
+-- from s these calls gave these outcomes and left e
+abbrev pub RunInC : CallersBatch → List Call → List BatchOutcome → CallersBatch → Type 0
+RunInC s [] [] e = e ≡ s
+RunInC s [] (r ∷ outcomes) e = ⊥
+RunInC s (call ∷ calls) [] e = ⊥
+RunInC s (call ∷ calls) (r ∷ outcomes) e = (o : PromisedInC s call r) × RunInC (leftInC o) calls outcomes e
+
+-- ---- demand 3, of a run of an opening and these calls
+pub record Demand3InC (n m : ℕ) (calls : List Call) (opening : BatchOutcome) (outcomes : List BatchOutcome) (e : CallersBatch) : Type 0 where
+  pub opens : answerIn opening ≡ accepted
+  pub answered : map answerIn outcomes ≡ answersByRules n m calls
+  pub file : e .file ≡ made n m (standingByRules n m calls) .file
+  pub journal : e .journal ≡ made n m (standingByRules n m calls) .journal
+  pub counts : e .counts ≡ countsOut (made n m (standingByRules n m calls) .counts)
+
+-- ---- a refusal changes nothing and gives back the counts it got; a refused opening gives zero counts
+pub record ChangesNothingInC (s : CallersBatch) (call : Call) (e : CallersBatch) : Type 0 where
+  pub file : e .file ≡ s .file
+  pub journal : e .journal ≡ s .journal
+  pub counts : (call ≡ Open → ⊥) → e .counts ≡ s .counts
+  pub countsOfOpening : call ≡ Open → e .counts ≡ countsOut noCounts

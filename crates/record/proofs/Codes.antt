@@ -1,0 +1,43 @@
+-- The codes of the table, and codes of any list.
+-- Assumes nothing.
+use Prim.Native.Nat.{ℕ}
+use mathlib.Core.Path.{_≡_, refl}
+use mathlib.Core.Bool.{Bool, true, false, cond}
+use mathlib.Core.List.{List, [], _∷_, _++_, map}
+use borrow.Author.Tests.{eq-eqb}
+use lib.Dec.{eqb}
+use Rattle.text.proofs.Booleans.{clash}
+use Rattle.record.specs.Table.{Rule}
+use Rattle.record.specs.Rules.{table}
+use Rattle.record.specs.Codes.{tableCodes, lacks}
+
+-- ---- the paper's table: its codes, in its order
+abbrev pub codeOf : Rule → ℕ
+codeOf r = r .code
+
+pub codes-in-order : (posting : Bool) (rec : List ℕ) → map codeOf (table posting rec) ≡ tableCodes
+unfolding table
+codes-in-order posting rec = refl
+
+-- none of them is 0
+pub none-zero : (posting : Bool) (rec : List ℕ) → lacks 0 (map codeOf (table posting rec)) ≡ true
+unfolding lacks
+none-zero posting rec = rw (codes-in-order posting rec)
+
+-- ---- a list of codes
+-- one that is there is not one that it lacks
+pub lacks-other : (c x : ℕ) (xs : List ℕ) → lacks x xs ≡ false → lacks c xs ≡ true → x ≡ c → ⊥
+lacks-other c x xs there none e = clash none (rw e at there)
+
+pub lacks-behind : (c x : ℕ) (xs : List ℕ) → lacks c xs ≡ false → lacks c (x ∷ xs) ≡ false
+unfolding lacks
+lacks-behind c x xs there = go (eqb x c)
+  where
+    go : (t : Bool) → cond t false (lacks c xs) ≡ false
+    go true = refl
+    go false = there
+
+pub lacks-there : (before : List Rule) (r : Rule) (after : List Rule) → lacks (r .code) (map codeOf (before ++ r ∷ after)) ≡ false
+unfolding lacks
+lacks-there [] r after = rw (eq-eqb (r .code) (r .code) refl)
+lacks-there (x ∷ before) r after = lacks-behind (r .code) (x .code) (map codeOf (before ++ r ∷ after)) (lacks-there before r after)

@@ -1,0 +1,76 @@
+-- Records that pass, computed over the definitions: so the table does not refuse everything.
+-- Assumes nothing.
+use Prim.Native.Nat.{ℕ}
+use Prim.Native.String.{String}
+use mathlib.Core.Path.{_≡_, refl}
+use mathlib.Core.Bool.{Bool, true, false, _&&_}
+use mathlib.Core.List.{List, [], _∷_, _++_}
+use lib.Dec.{eqb}
+use Rattle.text.specs.declared.Answer.{Answer}
+use Rattle.text.specs.Bytes.{every, run}
+use Rattle.text.specs.Lists.{sameBytes}
+use Rattle.text.specs.Numbers.{numberAfter}
+use Rattle.text.specs.Texts.{bytes, allHold}
+use Rattle.ident.specs.Identifier.{shapeOf, weighted, endsRight, rightId}
+use Rattle.ident.specs.Calls.{partsOf}
+use Rattle.layout.specs.Layout.{widths, fieldOf}
+use Rattle.fields.specs.Frame.{framed}
+use Rattle.fields.specs.Dates.{daysIn, readDate, readTime}
+use Rattle.fields.specs.Texts.{filled, contains, isHost, isMail}
+use Rattle.fields.specs.Amounts.{isMoney}
+use Rattle.fields.specs.Services.{codesFrom, hasCode, withCode, added, readServices}
+use Rattle.fields.specs.Examples.{inField}
+use Rattle.record.specs.Rules.{askedOf, givenOf, travelOf, table, recordAnswer}
+
+-- ---- a record from the texts of its fields, each with spaces behind to its width
+unfoldable pub laidOut : List ℕ → List String → List ℕ
+laidOut [] ts = []
+laidOut (w ∷ ws) [] = inField w "" ++ laidOut ws []
+laidOut (w ∷ ws) (t ∷ ts) = inField w t ++ laidOut ws ts
+
+unfoldable pub recordOf : List String → List ℕ
+recordOf ts = laidOut widths ts
+
+unfoldable pub domestic : List ℕ
+domestic = recordOf ("BO5412345671F" ∷ "20240229" ∷ "23:59:59" ∷ "Jan" ∷ "11000" ∷ "" ∷ "Praha" ∷ "" ∷ "" ∷ "" ∷ "" ∷ "" ∷ "" ∷ "" ∷ " 0.500" ∷ [])
+
+unfoldable pub abroad : List ℕ
+abroad =
+    recordOf
+    ("EE021831216CZ" ∷ "20991231" ∷ "00:00:00" ∷ "Max" ∷ "" ∷ "AT" ∷ "Wien" ∷ "" ∷ "Ring" ∷ "1" ∷ "" ∷ "" ∷ "m@w.at" ∷ "" ∷ "99.999" ∷ [])
+
+-- ten crowns on delivery under service 41, twenty as the price specified: with this identifier, name and status
+unfoldable pub parcel : String → String → String → List ℕ
+parcel id name status =
+    recordOf
+    (id ∷ "20240101" ∷ "08:00:00" ∷ name ∷ "60200" ∷ "" ∷ "Brno" ∷ "" ∷ "" ∷ "" ∷ "" ∷ "+420123456789" ∷ "" ∷ "" ∷ "10.000" ∷ "10.00" ∷ "20.00" ∷ "7+41" ∷ status ∷ "" ∷ "0000000001" ∷ [])
+
+unfoldable pub cashOnDelivery : List ℕ
+cashOnDelivery = parcel "BO3601002029C" "Eva" ""
+
+-- piece 02 of 03 of a set whose first piece is BO5412345671F
+unfoldable pub secondPiece : List ℕ
+secondPiece =
+    recordOf
+    ("BO0100010005F" ∷ "20240101" ∷ "08:00:00" ∷ "Eva" ∷ "60200" ∷ "" ∷ "Brno" ∷ "" ∷ "" ∷ "" ∷ "" ∷ "" ∷ "" ∷ "" ∷ " 0.001" ∷ "" ∷ "" ∷ "70" ∷ "" ∷ "" ∷ "" ∷ "BO5412345671F" ∷ "02" ∷ "03" ∷ [])
+
+unfoldable pub cancelled : List ℕ
+cancelled = parcel "BO0100010045F" "Eva" "0 "
+
+-- ---- the answer to a record, in a file or to be posted
+unfoldable pub answers : ℕ → ℕ → Answer → Bool
+answers code place a = eqb (a .code) code && eqb (a .place) place
+
+unfoldable pub claims : List Bool
+claims =
+    answers 0 0 (recordAnswer true domestic)
+    ∷ answers 0 0 (recordAnswer true abroad)
+    ∷ answers 0 0 (recordAnswer true cashOnDelivery)
+    ∷ answers 0 0 (recordAnswer true secondPiece)
+    ∷ answers 0 0 (recordAnswer false cancelled)
+    ∷ answers 210 19 (recordAnswer true cancelled)
+    ∷ []
+
+pub shown : allHold claims ≡ true
+unfolding bytes allHold every run numberAfter sameBytes shapeOf weighted endsRight rightId partsOf fieldOf framed daysIn readDate readTime filled contains isHost isMail isMoney codesFrom hasCode withCode added readServices askedOf givenOf travelOf table recordAnswer inField laidOut recordOf parcel domestic abroad cashOnDelivery secondPiece cancelled answers claims
+shown = refl

@@ -1,0 +1,41 @@
+-- What a record's answer means, in the paper's words: 0 exactly if none of the conditions holds; otherwise the first that holds, with its place.
+-- Assumes nothing.
+use Prim.Native.Nat.{ℕ}
+use mathlib.Core.Path.{_≡_}
+use mathlib.Core.Bool.{Bool, true, false, cond}
+use mathlib.Core.List.{List, [], _∷_, _++_}
+use Rattle.text.specs.declared.Answer.{Answer}
+use Rattle.text.specs.Answers.{answer, accepted}
+use Rattle.record.specs.Table.{Case, Rule, broken}
+
+-- ---- no case, no rule of a list holds
+unfoldable pub noCase : List Case → Bool
+noCase [] = true
+noCase (k ∷ ks) = cond (k .when) false (noCase ks)
+
+unfoldable pub noneBroken : List Rule → Bool
+noneBroken [] = true
+noneBroken (r ∷ rs) = cond (broken r) false (noneBroken rs)
+
+-- ---- the first case that holds, and the first rule that is broken
+pub record FirstCase (c : ℕ) (ks : List Case) (a : Answer) : Type 0 where
+  pub before : List Case
+  pub here : Case
+  pub after : List Case
+  pub split : ks ≡ before ++ here ∷ after
+  pub none : noCase before ≡ true
+  pub holds : here .when ≡ true
+  pub says : a ≡ answer c (here .place)
+
+pub record FirstBroken (rs : List Rule) (a : Answer) : Type 0 where
+  pub before : List Rule
+  pub here : Rule
+  pub after : List Rule
+  pub split : rs ≡ before ++ here ∷ after
+  pub none : noneBroken before ≡ true
+  pub case : FirstCase (here .code) (here .cases) a
+
+-- ---- the answer of a table: 0 where no rule is broken, else the first that is, at the place of its first case that holds
+pub data Outcome (rs : List Rule) (a : Answer) : Type 0 where
+  good : noneBroken rs ≡ true → a ≡ accepted → Outcome rs a
+  bad : noneBroken rs ≡ false → FirstBroken rs a → Outcome rs a

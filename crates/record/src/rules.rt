@@ -1,0 +1,454 @@
+// The rules, in the paper's order: those on the form of the fields, then those on what the fields say.
+ghost use mathlib.Core.Path.{_≡_};
+ghost use mathlib.Core.List.{[], _∷_};
+ghost use Prim.Native.Nat.{_+_, _<_};
+ghost use lib.ListN.{length, getD};
+ghost use Rattle.fields.specs.Amounts.{absentOrZeroWeight};
+ghost use Rattle.record.specs.Table.{at, rule, placesFrom, verdict};
+ghost use Rattle.record.specs.Columns.{whens};
+ghost use Rattle.record.specs.Readings.{malformedStatus};
+ghost use Rattle.record.specs.Rules.{whenFlags, addressFlags, contactFlags, goodsFlags, marksFlags, pieceFlags, tailFlags, earlyFlags, lateFlags, askedOf, givenOf, isSetPrefix, travelOf, identifierRule, formOf, contentOf, addressRule, serviceRules};
+use crate::columns::first_true;
+use crate::readings::Address;
+use crate::readings::Contact;
+use crate::readings::Goods;
+use crate::readings::Marks;
+use crate::readings::Piece;
+use crate::readings::Tail;
+use crate::readings::When;
+use fields::Services;
+use fields::StatusReading;
+use fields::WeightReading;
+use text::ACCEPTED;
+use text::Answer;
+
+// ---- 1 and 210: the form of the fields
+
+// Code 1: field 1 is no right identifier.
+fn identifier_answer(rec: &[u8]) -> Answer
+    ensures { λ r. ⌜ r ≡ verdict (identifierRule (now (rec .entry)) ∷ []) ⌝ }
+{
+    ident::check(layout::field(rec, 1))
+}
+
+// Code 210 at the lowest malformed field, of those from `start` on.
+fn malformed_answer(bad: &[bool], start: u32) -> Answer
+    requires { ⌜ start + length (now bad) < 100 ⌝ }
+    ensures { λ r. ⌜ r ≡ verdict (rule 210 (placesFrom start (now (bad .entry))) ∷ []) ⌝ }
+{
+    let i = first_true(bad);
+    if i < bad.len() {
+        Answer {
+            code: 210,
+            place: start + i as u32,
+        }
+    } else {
+        ACCEPTED
+    }
+}
+
+fn when_answer(w: When) -> Answer
+    ensures { λ r. ⌜ r ≡ verdict (rule 210 (placesFrom 2 (whenFlags w)) ∷ []) ⌝ }
+{
+    let date = w.date;
+    let time = w.time;
+    let bad = [date.is_malformed(), time.is_malformed()];
+    malformed_answer(&bad, 2)
+}
+
+fn address_form_answer(a: Address) -> Answer
+    ensures { λ r. ⌜ r ≡ verdict (rule 210 (placesFrom 4 (addressFlags a)) ∷ []) ⌝ }
+{
+    let name = a.name;
+    let postcode = a.postcode;
+    let country = a.country;
+    let municipality = a.municipality;
+    let district = a.district;
+    let street = a.street;
+    let house = a.house;
+    let orientation = a.orientation;
+    let bad = [
+        name.is_malformed(),
+        postcode.is_malformed(),
+        country.is_malformed(),
+        municipality.is_malformed(),
+        district.is_malformed(),
+        street.is_malformed(),
+        house.is_malformed(),
+        orientation.is_malformed(),
+    ];
+    malformed_answer(&bad, 4)
+}
+
+fn contact_answer(c: Contact) -> Answer
+    ensures { λ r. ⌜ r ≡ verdict (rule 210 (placesFrom 12 (contactFlags c)) ∷ []) ⌝ }
+{
+    let telephone = c.telephone;
+    let mail = c.mail;
+    let empty = c.empty;
+    let bad = [
+        telephone.is_malformed(),
+        mail.is_malformed(),
+        empty.is_malformed(),
+    ];
+    malformed_answer(&bad, 12)
+}
+
+// A fresh record, one that is to be posted, may not be cancelled yet.
+fn malformed_status(r: StatusReading, fresh: bool) -> bool
+    ensures { λ b. ⌜ b ≡ malformedStatus fresh r ⌝ }
+{
+    match r {
+        StatusReading::Live => false,
+        StatusReading::Cancelled => fresh,
+        StatusReading::Malformed => true,
+    }
+}
+
+fn goods_answer(g: Goods, fresh: bool) -> Answer
+    ensures { λ r. ⌜ r ≡ verdict (rule 210 (placesFrom 15 (goodsFlags fresh g)) ∷ []) ⌝ }
+{
+    let weight = g.weight;
+    let cash = g.cash;
+    let price = g.price;
+    let services = g.services;
+    let status = g.status;
+    let bad = [
+        weight.is_malformed(),
+        cash.is_malformed(),
+        price.is_malformed(),
+        services.is_malformed(),
+        malformed_status(status, fresh),
+    ];
+    malformed_answer(&bad, 15)
+}
+
+fn marks_answer(m: Marks) -> Answer
+    ensures { λ r. ⌜ r ≡ verdict (rule 210 (placesFrom 20 (marksFlags m)) ∷ []) ⌝ }
+{
+    let machine = m.machine;
+    let symbol = m.symbol;
+    let bad = [machine.is_malformed(), symbol.is_malformed()];
+    malformed_answer(&bad, 20)
+}
+
+fn piece_answer(p: Piece) -> Answer
+    ensures { λ r. ⌜ r ≡ verdict (rule 210 (placesFrom 22 (pieceFlags p)) ∷ []) ⌝ }
+{
+    let main = p.main;
+    let serial = p.serial;
+    let pieces = p.pieces;
+    let bad = [
+        main.is_malformed(),
+        serial.is_malformed(),
+        pieces.is_malformed(),
+    ];
+    malformed_answer(&bad, 22)
+}
+
+fn tail_answer(t: Tail) -> Answer
+    ensures { λ r. ⌜ r ≡ verdict (rule 210 (placesFrom 25 (tailFlags t)) ∷ []) ⌝ }
+{
+    let empty = t.empty;
+    let sender = t.sender;
+    let bad = [empty.is_malformed(), sender.is_malformed()];
+    malformed_answer(&bad, 25)
+}
+
+// Fields 2 to 14.
+fn early_answer(when: When, address: Address, contact: Contact) -> Answer
+    ensures { λ r. ⌜ r ≡ verdict (rule 210 (placesFrom 2 (earlyFlags when address contact)) ∷ []) ⌝ }
+{
+    let rest = address_form_answer(address).or_else(contact_answer(contact));
+    when_answer(when).or_else(rest)
+}
+
+// Fields 15 to 26.
+fn late_answer(goods: Goods, marks: Marks, piece: Piece, tail: Tail, fresh: bool) -> Answer
+    ensures { λ r. ⌜ r ≡ verdict (rule 210 (placesFrom 15 (lateFlags fresh goods marks piece tail)) ∷ []) ⌝ }
+{
+    let rest = piece_answer(piece).or_else(tail_answer(tail));
+    let rest = marks_answer(marks).or_else(rest);
+    goods_answer(goods, fresh).or_else(rest)
+}
+
+// Codes 1 and 210.
+pub(crate) fn form_answer(
+    rec: &[u8],
+    when: When,
+    address: Address,
+    contact: Contact,
+    goods: Goods,
+    marks: Marks,
+    piece: Piece,
+    tail: Tail,
+    fresh: bool,
+) -> Answer
+    ensures { λ r. ⌜ r ≡ verdict (formOf fresh (now (rec .entry)) when address contact goods marks piece tail) ⌝ }
+{
+    let early = early_answer(when, address, contact);
+    let rest = early.or_else(late_answer(goods, marks, piece, tail, fresh));
+    identifier_answer(rec).or_else(rest)
+}
+
+// ---- 27 and 34: address and weight
+
+// Code 27: name, postcode or municipality, blank or filled where they may not be.
+fn address_answer(a: Address) -> Answer
+    ensures { λ r. ⌜ r ≡ verdict (addressRule a ∷ []) ⌝ }
+{
+    let name = a.name;
+    let postcode = a.postcode;
+    let country = a.country;
+    let municipality = a.municipality;
+    let domestic = country.is_absent();
+    let unplaced = postcode.is_absent();
+    if name.is_absent() {
+        return Answer { code: 27, place: 4 };
+    }
+    if domestic & unplaced | !domestic & !unplaced {
+        return Answer { code: 27, place: 5 };
+    }
+    if municipality.is_absent() {
+        return Answer { code: 27, place: 7 };
+    }
+    ACCEPTED
+}
+
+const WEIGHTLESS: Answer = Answer {
+    code: 34,
+    place: 15,
+};
+
+// Code 34: weight absent or zero.
+fn weight_answer(weight: WeightReading) -> Answer
+    ensures { λ r. ⌜ r ≡ verdict (rule 34 (at 15 (absentOrZeroWeight weight) ∷ []) ∷ []) ⌝ }
+{
+    let WeightReading::Value(grams) = weight else {
+        return WEIGHTLESS;
+    };
+    if grams.0 == 0 { WEIGHTLESS } else { ACCEPTED }
+}
+
+// ---- 36 to 72: money and services. The fields are named as the rules have them.
+
+// Which services are there; `cashService` is one of 2, 4, 5 and 41.
+pub struct Asked {
+    pub cashService: bool,
+    pub service7: bool,
+    pub service34: bool,
+    pub service41: bool,
+    pub service45: bool,
+    pub service46: bool,
+    pub service70: bool,
+}
+
+fn asked_of(s: Services) -> Asked
+    ensures { λ r. ⌜ r ≡ askedOf s ⌝ }
+{
+    let service2 = s.has(2);
+    let service4 = s.has(4);
+    let service5 = s.has(5);
+    let service7 = s.has(7);
+    let service34 = s.has(34);
+    let service41 = s.has(41);
+    let service45 = s.has(45);
+    let service46 = s.has(46);
+    let service70 = s.has(70);
+    Asked {
+        cashService: service2 | service4 | service5 | service41,
+        service7,
+        service34,
+        service41,
+        service45,
+        service46,
+        service70,
+    }
+}
+
+// What stands in the fields that services ask for: 16, 17, 21, 12, 13.
+pub struct Given {
+    pub cashAbsentOrZero: bool,
+    pub cashFilled: bool,
+    pub priceAbsentOrZero: bool,
+    pub priceFilled: bool,
+    pub symbolFilled: bool,
+    pub telephoneFilled: bool,
+    pub mailFilled: bool,
+}
+
+fn given_of(c: Contact, g: Goods, m: Marks) -> Given
+    ensures { λ r. ⌜ r ≡ givenOf c g m ⌝ }
+{
+    let cash = g.cash;
+    let price = g.price;
+    let symbol = m.symbol;
+    let telephone = c.telephone;
+    let mail = c.mail;
+    let no_cash = cash.is_absent();
+    let no_price = price.is_absent();
+    let no_symbol = symbol.is_absent();
+    let no_telephone = telephone.is_absent();
+    let no_mail = mail.is_absent();
+    Given {
+        cashAbsentOrZero: cash.is_absent_or_zero(),
+        cashFilled: !no_cash,
+        priceAbsentOrZero: price.is_absent_or_zero(),
+        priceFilled: !no_price,
+        symbolFilled: !no_symbol,
+        telephoneFilled: !no_telephone,
+        mailFilled: !no_mail,
+    }
+}
+
+// What stands in the fields of pieces that travel together: 22, 23, 24.
+pub struct Travel {
+    pub setPrefix: bool,
+    pub mainFilled: bool,
+    pub serialFilled: bool,
+    pub piecesFilled: bool,
+    pub serialAbovePieces: bool,
+    pub serialIs01: bool,
+    pub mainIsOwn: bool,
+}
+
+// A prefix under which several pieces may travel together.
+fn is_set_prefix(a: u8, b: u8) -> bool
+    ensures { λ r. ⌜ r ≡ isSetPrefix a b ⌝ }
+{
+    (a == b'B') & (b == b'O')
+        | (a == b'O') & (b == b'V')
+        | (a == b'D') & (b == b'R')
+        | (a == b'N') & (b == b'P')
+}
+
+fn has_set_prefix(id: &[u8]) -> bool
+    ensures { λ r. ⌜ r ≡ isSetPrefix (getD (now (id .entry)) 0 0) (getD (now (id .entry)) 1 0) ⌝ }
+{
+    if id.len() < 2 {
+        return false;
+    }
+    is_set_prefix(id[0], id[1])
+}
+
+fn travel_of(rec: &[u8], p: Piece) -> Travel
+    ensures { λ r. ⌜ r ≡ travelOf (now (rec .entry)) p ⌝ }
+{
+    let main = p.main;
+    let serial = p.serial;
+    let pieces = p.pieces;
+    let set_prefix = has_set_prefix(layout::field(rec, 1));
+    let own = ident::same(layout::field(rec, 22), layout::field(rec, 1));
+    let no_main = main.is_absent();
+    let no_serial = serial.is_absent();
+    let no_pieces = pieces.is_absent();
+    let number = serial.number();
+    let count = pieces.number();
+    Travel {
+        setPrefix: set_prefix,
+        mainFilled: !no_main,
+        serialFilled: !no_serial,
+        piecesFilled: !no_pieces,
+        serialAbovePieces: count < number,
+        serialIs01: number == 1,
+        mainIsOwn: own,
+    }
+}
+
+// The rules in their order, case by case, and what stands for no case.
+const SERVICE_CODES: [u32; 17] = [
+    36,
+    11,
+    221,
+    222,
+    220,
+    223,
+    223,
+    72,
+    72,
+    72,
+    72,
+    72,
+    72,
+    72,
+    72,
+    72,
+    0,
+];
+
+const SERVICE_PLACES: [u32; 17] = [
+    16,
+    21,
+    21,
+    17,
+    18,
+    12,
+    13,
+    18,
+    22,
+    23,
+    24,
+    23,
+    22,
+    22,
+    23,
+    24,
+    0,
+];
+
+fn service_flags(s: Asked, f: Given, p: Travel) -> [bool; 16]
+    ensures { λ r. ⌜ r ≡ whens (serviceRules s f p) ⌝ }
+{
+    [
+        s.cashService & f.cashAbsentOrZero | !s.cashService & f.cashFilled,
+        s.service41 & !f.symbolFilled,
+        f.symbolFilled & !s.cashService,
+        s.service7 & f.priceAbsentOrZero | !s.service7 & f.priceFilled,
+        s.service34 & s.service45 | s.service34 & s.service46 | s.service45 & s.service46,
+        (s.service34 | s.service45) & !f.telephoneFilled,
+        (s.service45 | s.service46) & !f.mailFilled,
+        s.service70 & !p.setPrefix,
+        s.service70 & !p.mainFilled,
+        s.service70 & !p.serialFilled,
+        s.service70 & !p.piecesFilled,
+        s.service70 & p.serialAbovePieces,
+        s.service70 & (p.serialIs01 & !p.mainIsOwn | !p.serialIs01 & p.mainIsOwn),
+        !s.service70 & p.mainFilled,
+        !s.service70 & p.serialFilled,
+        !s.service70 & p.piecesFilled,
+    ]
+}
+
+fn service_answer(s: Asked, f: Given, p: Travel) -> Answer
+    ensures { λ r. ⌜ r ≡ verdict (serviceRules s f p) ⌝ }
+{
+    let broken = service_flags(s, f, p);
+    let i = first_true(&broken);
+    Answer {
+        code: SERVICE_CODES[i],
+        place: SERVICE_PLACES[i],
+    }
+}
+
+// Codes 27 to 72.
+pub(crate) fn content_answer(
+    rec: &[u8],
+    address: Address,
+    contact: Contact,
+    goods: Goods,
+    marks: Marks,
+    piece: Piece,
+) -> Answer
+    ensures { λ r. ⌜ r ≡ verdict (contentOf (now (rec .entry)) address contact goods marks piece) ⌝ }
+{
+    let weight = goods.weight;
+    let services = goods.services;
+    let asked = asked_of(services.services());
+    let last = service_answer(
+        asked,
+        given_of(contact, goods, marks),
+        travel_of(rec, piece),
+    );
+    let rest = weight_answer(weight).or_else(last);
+    address_answer(address).or_else(rest)
+}
