@@ -7,7 +7,7 @@ use mathlib.Core.List.{List, [], _∷_, _++_}
 use lib.ListN.{length, getD, take, drop}
 use lib.Dec.{eqb, leb, ltb}
 use Rattle.text.specs.declared.Answer.{Answer}
-use Rattle.text.specs.Answers.{answer, accepted, orElse}
+use Rattle.text.specs.Answers.{answer, accepted, orElse, wrongLength}
 use Rattle.text.specs.Bytes.{every}
 use Rattle.text.specs.Lists.{sameBytes, overlay}
 use Rattle.posting.specs.declared.Totals.{Totals}
@@ -65,7 +65,7 @@ entryAnswer b kind body =
     cond (eqb (length body) (bodyLength kind))
     (orElse (actionAnswer (b .file) (b .counts .held) kind body)
     (cond (leb (b .counts .used + entryLength kind) (length (b .journal))) accepted (answer 231 0)))
-    (answer 236 0)
+    wrongLength
 
 abbrev pub workAnswer : Batch → Call → Answer
 workAnswer b Open = accepted

@@ -8,7 +8,7 @@ use mathlib.Core.List.{List, [], _∷_, _++_, map}
 use lib.ListN.{length, take, drop, set}
 use lib.Dec.{eqb, ltb, leb}
 use Rattle.text.specs.declared.Answer.{Answer}
-use Rattle.text.specs.Answers.{answer, accepted, orElse}
+use Rattle.text.specs.Answers.{answer, accepted, orElse, wrongLength}
 use Rattle.text.specs.Lists.{sameBytes}
 use Rattle.ident.specs.Identifier.{rightId}
 use Rattle.text.specs.Lists.{joined}
@@ -99,7 +99,7 @@ unfoldable pub entryRule : List (List ℕ) → ℕ → ℕ → Action → Answer
 entryRule recs places room a =
     cond (eqb (length (bodyOf a)) (bodyLength (kindOf a)))
     (orElse (actionRule recs places a) (cond (leb (entryLength (kindOf a)) room) accepted (answer 231 0)))
-    (answer 236 0)
+    wrongLength
 
 -- undo: 234 where no action stands
 abbrev pub undoRule : List Action → Answer

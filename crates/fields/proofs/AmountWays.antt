@@ -2,22 +2,25 @@
 -- Assumes nothing.
 use Prim.Native.Nat.{ℕ, zero, suc, _+_, _-_, _*_, _/_, _%_, _^_, _≤_, _<_}
 use mathlib.Core.Path.{_≡_, refl, sym, ap, _∙_}
-use mathlib.Core.Bool.{Bool, true, false, cond, not, _&&_, _||_, and-eq-true-iff}
+use mathlib.Core.Bool.{Bool, true, false, cond, not, _&&_, _||_}
 use mathlib.Core.List.{List, [], _∷_, _++_, append-assoc}
 use native.Mathlib.Nat.{sub-zero, zero-sub}
 use native.Mathlib.Omega.{arith}
 use borrow.Author.Tests.{eq-eqb, ne-eqb, lt-ltb, le-ltb, le-leb, lt-leb, eqb-true, leb-true}
-use borrow.Rule.Slice.PartMut.{putMid, mid-len}
+use borrow.Rule.Slice.PartMut.{mid-len}
+use mir.Syntax.{w64}
+use mir.Val.{Fits}
 use lib.Dec.{eqb, leb, ltb}
-use lib.ListN.{length, getD, take, drop, set, replicate, length-append}
+use lib.ListN.{length, getD, take, drop, set, replicate, length-append, length-set}
 use lib.Seq.{getD-drop, take-at, drop-at, set-at, drop-drop, length-take-le}
 use Rattle.text.specs.Answers.{answer, accepted}
-use Rattle.text.specs.Bytes.{isDigit, allDigits, isBlank, run}
+use Rattle.text.specs.Bytes.{isDigit, allDigits, isBlank}
 use Rattle.text.specs.Lists.{part, overlay}
-use Rattle.text.specs.Numbers.{numberAfter, numberOf, numberOfFirst, digits, places}
-use Rattle.text.proofs.Lists.{spelled, put-is}
+use Rattle.text.specs.Numbers.{numberAfter, numberOf, numberOfFirst, digits, decimalPlaces}
+use Rattle.text.proofs.Booleans.{both}
+use Rattle.text.proofs.Lists.{spelled}
 use Rattle.text.proofs.Runs.{run-passes}
-use Rattle.text.proofs.Decimals.{places-at-most}
+use Rattle.text.proofs.Decimals.{decimal-places-at-most}
 use Rattle.text.proofs.Numbers.{few, ten-grows, number-below, length-digits, digit-bounds}
 use Rattle.fields.specs.declared.amounts.Grams.{Grams}
 use Rattle.fields.specs.declared.amounts.Hellers.{Hellers}
@@ -68,55 +71,58 @@ module _ (f : List ℕ) (n : ℕ) (pre : (length f ≡ 12) × (n ≡ crownDigits
   unfolding isMoney
   money-form d s l h ed es = rw (← pre .1, le-leb 1 n l, le-leb n 9 h, ed, es)
 
-both : (a b : Bool) → (a && b) ≡ true → (a ≡ true) × (b ≡ true)
-both a b h = and-eq-true-iff a b .0 h
+-- what an amount has, with p digits before its dot
+pub record Amount (f : List ℕ) (p : ℕ) : Type 0 where
+  pub low : 1 ≤ p
+  pub high : p ≤ 9
+  pub first : (eqb p 1 || not (eqb (getD f 0 0) 48)) ≡ true
+  pub dot : getD f p 0 ≡ 46
+  pub two-digits : allDigits (part f (p + 1) (p + 3)) ≡ true
+  pub rest : isBlank (part f (p + 3) 12) ≡ true
 
--- what an amount has
-pub record Amount (f : List ℕ) : Type 0 where
-  pub some : 1 ≤ crownDigits f
-  pub few-crowns : crownDigits f ≤ 9
-  pub no-zero : (eqb (crownDigits f) 1 || not (eqb (getD f 0 0) 48)) ≡ true
-  pub dot : getD f (crownDigits f) 0 ≡ 46
-  pub places : allDigits (part f (crownDigits f + 1) (crownDigits f + 3)) ≡ true
-  pub rest : isBlank (part f (crownDigits f + 3) 12) ≡ true
-
-pub money-facts : (f : List ℕ) → isMoney f ≡ true → Amount f
+pub amount-has : (f : List ℕ) → isMoney f ≡ true → Amount f (crownDigits f)
 unfolding isMoney
-money-facts f h =
+amount-has f h =
     let a = both _ (isBlank (part f (crownDigits f + 3) 12)) h in
     let b = both _ (allDigits (part f (crownDigits f + 1) (crownDigits f + 3))) (a .0) in
     let d = both _ (eqb (getD f (crownDigits f) 0) 46) (b .0) in
     let e = both _ (eqb (crownDigits f) 1 || not (eqb (getD f 0 0) 48)) (d .0) in
     let g = both (leb 1 (crownDigits f)) (leb (crownDigits f) 9) (e .0) in
     record {
-      some = leb-true 1 (crownDigits f) (g .0);
-      few-crowns = leb-true (crownDigits f) 9 (g .1);
-      no-zero = e .1;
+      low = leb-true 1 (crownDigits f) (g .0);
+      high = leb-true (crownDigits f) 9 (g .1);
+      first = e .1;
       dot = eqb-true (getD f (crownDigits f) 0) 46 (d .1);
-      places = b .1;
+      two-digits = b .1;
       rest = a .1;
     }
 
 module _ (f : List ℕ) (n : ℕ) (pre : (length f ≡ 12) × (n ≡ crownDigits f) × (isMoney f ≡ true)) where
-  has : Amount f
-  has = money-facts f (pre .2)
+  has : Amount f (crownDigits f)
+  has = amount-has f (pre .2)
 
   pub nine-digits : (1 ≤ n) × (n ≤ 9)
-  nine-digits = (omega (arith, has .some, pre .1), omega (arith, has .few-crowns, pre .1))
+  nine-digits = (omega (arith, has .low, pre .1), omega (arith, has .high, pre .1))
 
-  pub crowns-small : (c : ℕ) → c ≡ numberOfFirst 16 (part f 0 n) → c < 1000000000
+  crowns-small : (c : ℕ) → c ≡ numberOfFirst 16 (part f 0 n) → c < 1000000000
   crowns-small c e =
       let whole : c ≡ numberOf (take n f) = e ∙ few f 0 n (omega (arith, nine-digits)) ∙ ap (λ (k : ℕ). numberOf (take k f)) (sub-zero n) in
       let all : allDigits (take n f) ≡ true = rw (pre .1) (run-passes isDigit f) in
       let below = number-below n (take n f) (length-take-le n f (omega (arith, nine-digits, pre .0))) all in
       omega (arith, ten-grows n 9 (nine-digits .1))
 
-  pub places-small : (p : ℕ) → p ≡ numberOfFirst 16 (part f (n + 1) (n + 3)) → p < 100
-  places-small p e =
+  two-digits-small : (p : ℕ) → p ≡ numberOfFirst 16 (part f (n + 1) (n + 3)) → p < 100
+  two-digits-small p e =
       let whole : p ≡ numberOf (part f (n + 1) (n + 3)) = e ∙ few f (n + 1) (n + 3) (omega arith) in
-      let all : allDigits (part f (n + 1) (n + 3)) ≡ true = rw (pre .1) (has .places) in
+      let all : allDigits (part f (n + 1) (n + 3)) ≡ true = rw (pre .1) (has .two-digits) in
       let two : length (part f (n + 1) (n + 3)) ≡ 2 = mid-len (n + 1) (n + 3) f (omega (arith, nine-digits, pre .0)) ∙ omega arith in
       omega (arith, number-below 2 (part f (n + 1) (n + 3)) two all)
+
+  pub crowns-fit : (c : ℕ) → c ≡ numberOfFirst 16 (part f 0 n) → Fits w64 (c * 100)
+  crowns-fit c e = record { fits = omega (arith, crowns-small c e) }
+
+  pub hellers-fit : (c p : ℕ) → c ≡ numberOfFirst 16 (part f 0 n) → p ≡ numberOfFirst 16 (part f (n + 1) (n + 3)) → Fits w64 (c * 100 + p)
+  hellers-fit c p ec ep = record { fits = omega (arith, crowns-small c ec, two-digits-small p ep) }
 
   pub hellers-are : (c p : ℕ) → c ≡ numberOfFirst 16 (part f 0 n) → p ≡ numberOfFirst 16 (part f (n + 1) (n + 3)) → c * 100 + p ≡ hellersIn f
   hellers-are c p ec ep = rw (ec, ep, few f 0 n (omega (arith, nine-digits)), few f (n + 1) (n + 3) (omega arith), pre .1)
@@ -128,12 +134,11 @@ module _ (f : List ℕ) (b g : Bool) (n : ℕ) (long : length f ≡ 12) (eb : b 
   pub money-bad : g ≡ false → Money.Malformed ≡ readMoney f
   money-bad t = frame-bad Money.Absent Money.Malformed (hellers (hellersIn f)) 12 f (isMoney f) b long eb nb (sym eg ∙ t)
 
-pub money-reads : (f : List ℕ) (n : ℕ) (g : Bool) → length f ≡ 12 → (n ≡ run isDigit f) × (n ≤ length f) → g ≡ isMoney f → g ≡ true
-    → (length f ≡ 12) × (n ≡ crownDigits f) × (isMoney f ≡ true)
-money-reads f n g long en eg t = (long, en .0, sym eg ∙ t)
+pub money-good : (f : List ℕ) (g : Bool) → g ≡ isMoney f → g ≡ true → isMoney f ≡ true
+money-good f g eg t = sym eg ∙ t
 
 -- ---- what a weight weighs
-pub weight-small : (f : List ℕ) → length f ≡ 6 → isWeight f ≡ true → (numberOf (part f 0 2) ≤ 99) × (numberOf (part f 3 6) ≤ 999)
+weight-small : (f : List ℕ) → length f ≡ 6 → isWeight f ≡ true → (numberOf (part f 0 2) ≤ 99) × (numberOf (part f 3 6) ≤ 999)
 unfolding numberAfter
 weight-small f long h =
     let a = both _ (allDigits (part f 3 6)) h in
@@ -148,20 +153,18 @@ weight-small f long h =
     small true e g = omega (arith, eqb-true (getD f 0 0) 32 e)
     small false e g = digit-bounds (getD f 0 0) (both (isDigit (getD f 0 0)) (not (eqb (getD f 0 0) 48)) g .0) .1
 
--- the same, of what is read
-pub weight-fits : (f : List ℕ) → length f ≡ 6 → isWeight f ≡ true → (numberOfFirst 16 (part f 0 2) ≤ 99) × (numberOfFirst 16 (part f 3 6) ≤ 999)
-weight-fits f long h =
-    let s = weight-small f long h in
-    (omega (arith, few f 0 2 (omega arith)), omega (arith, few f 3 6 (omega arith)))
+-- what the code multiplies and adds up has 64 bits
+module _ (f : List ℕ) (g : Bool) (k m : ℕ) (long : length f ≡ 6) (eg : g ≡ isWeight f) (good : g ≡ true) (ek : k ≡ numberOfFirst 16 (part f 0 2)) where
+  kilos-small : k ≤ 99
+  kilos-small = omega (arith, few f 0 2 (omega arith), weight-small f long (sym eg ∙ good))
+
+  pub kilos-fit : Fits w64 (k * 1000)
+  kilos-fit = record { fits = omega (arith, kilos-small) }
+
+  pub grams-fit : m ≡ numberOfFirst 16 (part f 3 6) → Fits w64 (k * 1000 + m)
+  grams-fit em = record { fits = omega (arith, kilos-small, few f 3 6 (omega arith), weight-small f long (sym eg ∙ good)) }
 
 -- ---- writing
-pub overlay-put : (s t : List ℕ) (a w n : ℕ) → a + w ≤ length s → t ≡ digits (length (take (a + w - a) (drop a s))) n
-    → putMid a (a + w - a) s t ≡ overlay s a (digits w n)
-overlay-put s t a w n h e =
-    let wide : length (take (a + w - a) (drop a s)) ≡ w = mid-len a (a + w) s h ∙ omega arith in
-    let text : t ≡ digits w n = e ∙ ap (λ (k : ℕ). digits k n) wide in
-    put-is a (a + w) s t (omega arith) h ∙ rw (text, length-digits w n)
-
 pub tens-space : (v : ℕ) → v < 10000 → 32 ≡ cond (ltb v 10000) 32 (48 + v / 10000)
 tens-space v h = rw (lt-ltb v 10000 h)
 
@@ -196,8 +199,8 @@ module _ (a b : List ℕ) (n : ℕ) (la : length a ≡ n) (lb : length b ≡ 2) 
   dot-put : set (a ++ 32 ∷ replicate (11 - n) 32) n 46 ≡ (a ++ 46 ∷ []) ++ replicate (11 - n) 32
   dot-put = set-at a 32 (replicate (11 - n) 32) 46 n la ∙ sym (append-assoc a (46 ∷ []) (replicate (11 - n) 32))
 
-  places-put : overlay ((a ++ 46 ∷ []) ++ replicate (11 - n) 32) (n + 1) b ≡ a ++ 46 ∷ (b ++ replicate (9 - n) 32)
-  places-put =
+  two-digits-put : overlay ((a ++ 46 ∷ []) ++ replicate (11 - n) 32) (n + 1) b ≡ a ++ 46 ∷ (b ++ replicate (9 - n) 32)
+  two-digits-put =
       let front : length (a ++ 46 ∷ []) ≡ n + 1 = simp length-append (omega arith) in
       let twice : drop (n + 1 + length b) ((a ++ 46 ∷ []) ++ replicate (11 - n) 32) ≡ replicate (9 - n) 32 =
       rw (lb, ← drop-drop 2 (n + 1) ((a ++ 46 ∷ []) ++ replicate (11 - n) 32), drop-at (a ++ 46 ∷ []) (replicate (11 - n) 32) (n + 1) front, drop-replicate 2 (11 - n) 32) (ap (λ (k : ℕ). replicate k 32) (fewer n few-crowns)) in
@@ -207,19 +210,26 @@ module _ (a b : List ℕ) (n : ℕ) (la : length a ≡ n) (lb : length b ≡ 2) 
       fewer n h = omega arith
 
   money-put-at : overlay (set (overlay (replicate 12 32) 0 a) n 46) (n + 1) b ≡ a ++ 46 ∷ (b ++ replicate (9 - n) 32)
-  money-put-at = rw (crowns-put, dot-put) places-put
+  money-put-at = rw (crowns-put, dot-put) two-digits-put
 
-crowns-few : (v : ℕ) → v < 100000000000 → places (v / 100) ≤ 9
-crowns-few v h = places-at-most 19 8 (v / 100) (omega arith)
+pub both-put : (s u w : List ℕ) (n v : ℕ) → u ≡ overlay s 0 (digits n (v / 100)) → w ≡ overlay (set u n 46) (n + 1) (digits 2 v)
+    → w ≡ overlay (set (overlay s 0 (digits n (v / 100))) n 46) (n + 1) (digits 2 v)
+both-put s u w n v eu ew = ew ∙ rw eu
 
-pub crowns-nine : (v n : ℕ) → v < 100000000000 → (n ≡ places (v / 100)) × ((1 ≤ n) × (n ≤ 20)) → n ≤ 9
-crowns-nine v n h en = rw (en .0) (crowns-few v h)
+pub both-long : (s u w : List ℕ) (n : ℕ) → length u ≡ length s → length w ≡ length (set u n 46) → length w ≡ length s
+both-long s u w n eu ew = ew ∙ length-set u n 46 ∙ eu
 
-module _ (s t u w : List ℕ) (v n : ℕ) (pre : (length s ≡ 12) × (v < 100000000000)) (en : (n ≡ places (v / 100)) × ((1 ≤ n) × (n ≤ 20))) where
-  pub money-put : t ≡ replicate (length s) 32 → u ≡ overlay t 0 (digits n (v / 100)) → w ≡ overlay (set u n 46) (n + 1) (digits 2 v) → w ≡ moneyText v
+pub nine-at-most : (n : ℕ) → n < 1000000000 → decimalPlaces n ≤ 9
+nine-at-most n h = decimal-places-at-most 19 8 n h
+
+pub crowns-nine : (v n : ℕ) → v < 100000000000 → (n ≡ decimalPlaces (v / 100)) × ((1 ≤ n) × (n ≤ 20)) → n ≤ 9
+crowns-nine v n h en = rw (en .0) (nine-at-most (v / 100) (omega arith))
+
+module _ (s t w : List ℕ) (v n : ℕ) (pre : (length s ≡ 12) × (v < 100000000000)) (en : (n ≡ decimalPlaces (v / 100)) × ((1 ≤ n) × (n ≤ 20))) where
+  pub money-put : t ≡ replicate (length s) 32 → w ≡ overlay (set (overlay t 0 (digits n (v / 100))) n 46) (n + 1) (digits 2 v) → w ≡ moneyText v
   unfolding moneyText
-  money-put et eu ew =
-      rw (ew, eu, et, pre .0, money-put-at (digits n (v / 100)) (digits 2 v) n (length-digits n (v / 100)) (length-digits 2 v) (crowns-nine v n (pre .1) en), en .0)
+  money-put et ew =
+      rw (ew, et, pre .0, money-put-at (digits n (v / 100)) (digits 2 v) n (length-digits n (v / 100)) (length-digits 2 v) (crowns-nine v n (pre .1) en), en .0)
 
 -- ---- the writers
 module _ (width : ℕ) (has : Bool) (text s : List ℕ) where

@@ -9,16 +9,15 @@ use native.Mathlib.Omega.{arith}
 use borrow.Author.Tests.{eqb-true, leb-true, le-leb}
 use lib.Dec.{eqb, leb}
 use lib.ListN.{length, getD, take, drop, replicate, length-replicate}
+use Rattle.text.proofs.Booleans.{both}
 use Rattle.text.specs.Bytes.{isDigit, every, allDigits, isSpace, isBlank, run}
 
 -- ---- the two sides of `&&`
 pub both-left : (a b : Bool) → (a && b) ≡ true → a ≡ true
-both-left true b h = refl
-both-left false b h = h
+both-left a b h = both a b h .0
 
 pub both-right : (a b : Bool) → (a && b) ≡ true → b ≡ true
-both-right true b h = h
-both-right false b h = cc
+both-right a b h = both a b h .1
 
 -- ---- a class of bytes: lo to 7Eh, or 80h to FFh
 pub class-exactly : (lo b : ℕ) → b < 256 → ((leb lo b && leb b 126 || leb 128 b) ≡ true) ↔ (((lo ≤ b) × (b ≤ 126)) ⊎ ((128 ≤ b) × (b ≤ 255)))

@@ -17,27 +17,10 @@ use Rattle.text.proofs.Numbers.{every-append, length-digits, digits-all, number
 use Rattle.fields.specs.Dates.{isLeap, daysIn, realDate, yearOf, monthOf, dayOf, readDate, hoursOf, minutesOf, secondsOf, isTime, readTime}
 use Rattle.fields.specs.declared.dates.DateReading.the-variants as Date
 use Rattle.fields.specs.declared.dates.TimeReading.the-variants as Time
+use Rattle.fields.specs.Meanings.{IsDate, Real, IsTimeOf}
 use Rattle.fields.proofs.Ways.{days-few}
 use Rattle.fields.proofs.ByteLaws.{both-left, both-right, every-take, every-drop}
 use Rattle.fields.proofs.FrameLaws.{chosen-exactly}
-
--- ---- 2: a real Gregorian date in 2000 to 2099, ccyymmdd
-pub record IsDate (f : List ℕ) (v : ℕ) : Type 0 where
-  pub y : ℕ
-  pub m : ℕ
-  pub d : ℕ
-  pub real : realDate y m d ≡ true
-  pub bytes : f ≡ digits 4 y ++ (digits 2 m ++ digits 2 d)
-  pub value : v ≡ y * 10000 + m * 100 + d
-
--- the bounds in the paper's words
-pub record Real (y m d : ℕ) : Type 0 where
-  pub from : 2000 ≤ y
-  pub until : y ≤ 2099
-  pub month : 1 ≤ m
-  pub months : m ≤ 12
-  pub day : 1 ≤ d
-  pub days : d ≤ daysIn y m
 
 pub real-exactly : (y m d : ℕ) → (realDate y m d ≡ true) ↔ Real y m d
 real-exactly y m d = (
@@ -113,17 +96,6 @@ date-exactly f v =
       λ h. let p = c .0 h in date-is f v (eqb-true (length f) 8 (p .0)) (both-left (allDigits f) _ (p .1)) (both-right (allDigits f) _ (p .1)) (same-date _ v (p .2)),
       λ i. c .1 (is-date f v i),
     )
-
--- ---- 3: hh:mm:ss, hours to 23, minutes and seconds to 59, as seconds from midnight
-pub record IsTimeOf (f : List ℕ) (v : ℕ) : Type 0 where
-  pub h : ℕ
-  pub m : ℕ
-  pub s : ℕ
-  pub hours : h ≤ 23
-  pub minutes : m ≤ 59
-  pub seconds : s ≤ 59
-  pub bytes : f ≡ digits 2 h ++ 58 ∷ (digits 2 m ++ 58 ∷ digits 2 s)
-  pub value : v ≡ h * 3600 + m * 60 + s
 
 no-time : (v : ℕ) → Time.Malformed ≡ Time.Value v → ⊥
 no-time v e = let z : _≡_ {A = ℕ} 0 1 = cc in omega arith

@@ -1,4 +1,4 @@
--- Readings turned round: how one came about, what is known of a part whose reading is a value, and when a reading is absent.
+-- Readings turned round: how one came about, what is known of a part whose reading is a value, when a reading is absent, and a reading written.
 -- Assumes nothing.
 use Prim.Native.Nat.{ℕ}
 use mathlib.Core.Path.{_≡_, refl, sym, _∙_}
@@ -65,6 +65,15 @@ module _ {A : Type 0} (absent malformed : A) (w : ℕ) (f : List ℕ) (good : Bo
       go h (blank e s) = s
       go h (valued e p) = absurd (nv (sym e ∙ h))
       go h (neither e) = absurd (nm (sym e ∙ h))
+
+  -- a part that is not malformed, read and written: the part again
+  pub read-written : (bytes : A → List ℕ) → bytes absent ≡ replicate w 32 → (GoodPart w f good → bytes value ≡ f) → (reading ≡ malformed → ⊥) → bytes reading ≡ f
+  read-written bytes spaces written fine = go way
+    where
+      go : Way reading → bytes reading ≡ f
+      go (blank e s) = rw e (spaces ∙ sym s)
+      go (valued e p) = rw e (written p)
+      go (neither e) = absurd (fine e)
 
 -- ---- a field that may not be blank
 pub chosen-exactly : {A : Type 0} (malformed value v : A) (a b : Bool) → (malformed ≡ v → ⊥)

@@ -17,6 +17,7 @@ use Rattle.fields.specs.Texts.{isPlain, contains, atIn, behindAt, isHost
 use Rattle.fields.specs.declared.texts.TextReading.the-variants.{Absent, Value, Malformed}
 use Rattle.text.proofs.Booleans.{clash}
 use Rattle.text.proofs.Runs.{run-passes}
+use Rattle.fields.specs.Meanings.{IsHostOf, IsMailOf}
 use Rattle.fields.proofs.ByteLaws.{class-exactly, both-left, both-right, blank-exactly, not-blank, run-within, run-append}
 use Rattle.fields.proofs.FrameLaws.{GoodPart, value-exactly, absent-spaces}
 use Rattle.fields.proofs.TextLaws.{not-absent, not-malformed, differs, same-length}
@@ -56,15 +57,6 @@ place-contains x (b ∷ s) (suc i) l e = rw (place-contains x s i (omega arith) 
 -- `contains` says that the byte stands somewhere
 pub contains-exactly : (x : ℕ) (s : List ℕ) → (contains x s ≡ true) ↔ Place x s
 contains-exactly x s = (contains-place x s, λ p. place-contains x s (p .at) (p .within) (p .there))
-
--- ---- behind the "@": bytes but no "@" with a dot that is neither first nor last, then only spaces
-pub record IsHostOf (h host : List ℕ) : Type 0 where
-  pub bytes : h ≡ host ++ replicate (length h - length host) 32
-  pub plain : every isPlain host ≡ true
-  pub dot : ℕ
-  pub is-dot : getD host dot 0 ≡ 46
-  pub behind : 0 < dot
-  pub before : dot + 1 < length host
 
 host-is : (h : List ℕ) → isHost h ≡ true → IsHostOf h (take (run isPlain h) h)
 unfolding isHost
@@ -118,22 +110,6 @@ there-within (b ∷ s) (suc i) x e p = omega (arith, there-within s i x e p)
 
 mail-split : (f : List ℕ) (a x : ℕ) → a < length f → getD f a 0 ≡ x → f ≡ take a f ++ x ∷ drop (a + 1) f
 mail-split f a x l e = rw (← e, add-one) (split-at f a 0 l)
-
--- ---- 13: bytes 21h-7Eh and 80h-FFh then only spaces, one "@" that isn't first, and after it a dot that is neither directly behind the "@"
--- nor last
-pub record IsMailOf (f : List ℕ) (n : ℕ) : Type 0 where
-  pub local : List ℕ
-  pub host : List ℕ
-  pub long : length f ≡ 50
-  pub end : n ≡ length local + 1 + length host
-  pub bytes : f ≡ local ++ 64 ∷ (host ++ replicate (50 - n) 32)
-  pub local-bytes : every isPlain local ≡ true
-  pub host-bytes : every isPlain host ≡ true
-  pub not-first : 0 < length local
-  pub dot : ℕ
-  pub is-dot : getD host dot 0 ≡ 46
-  pub not-behind : 0 < dot
-  pub not-last : dot + 1 < length host
 
 mail-is : (f : List ℕ) (n : ℕ) → length f ≡ 50 → isMail f ≡ true → mailEnd f ≡ n → IsMailOf f n
 unfolding isMail

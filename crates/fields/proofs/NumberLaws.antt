@@ -16,6 +16,7 @@ use Rattle.text.proofs.Lists.{spelled}
 use Rattle.text.proofs.Numbers.{ten-is, length-digits, digits-all, number-digits, number-below, digits-number}
 use Rattle.fields.specs.Numbers.{readDigits, readPostcode, isTelephone, readTelephone, readSymbol, readCount}
 use Rattle.fields.specs.declared.numbers.NumberReading.the-variants.{Absent, Value, Malformed}
+use Rattle.fields.specs.Meanings.{IsDigits, IsCount, IsTelephoneOf}
 use Rattle.fields.proofs.ByteLaws.{both-left, both-right, blank-exactly, not-blank, digits-not-blank}
 use Rattle.fields.proofs.FrameLaws.{GoodPart, value-exactly, absent-spaces}
 
@@ -30,11 +31,6 @@ differs e = let z : _≡_ {A = ℕ} 0 1 = cc in omega arith
 
 same-number : (a b : ℕ) → Value a ≡ Value b → a ≡ b
 same-number a b e = cc
-
--- ---- 5, 21: w digits
-pub record IsDigits (w : ℕ) (f : List ℕ) (v : ℕ) : Type 0 where
-  pub bytes : f ≡ digits w v
-  pub small : v < 10 ^ w
 
 digits-is : (w : ℕ) (f : List ℕ) (v : ℕ) → length f ≡ w → allDigits f ≡ true → numberOf f ≡ v → IsDigits w f v
 digits-is w f v l h e = record {
@@ -71,12 +67,6 @@ postcode-exactly f v = digits-exactly 5 f v (omega arith)
 pub symbol-exactly : (f : List ℕ) (v : ℕ) → (readSymbol f ≡ Value v) ↔ IsDigits 10 f v
 symbol-exactly f v = digits-exactly 10 f v (omega arith)
 
--- ---- 23, 24: 01 to 99
-pub record IsCount (f : List ℕ) (v : ℕ) : Type 0 where
-  pub bytes : f ≡ digits 2 v
-  pub least : 1 ≤ v
-  pub most : v ≤ 99
-
 pub count-exactly : (f : List ℕ) (v : ℕ) → (readCount f ≡ Value v) ↔ IsCount f v
 count-exactly f v =
     let c = value-exactly Absent Malformed 2 f (allDigits f && ltb 0 (numberOf f)) (Value (numberOf f)) (Value v) (not-absent v) (not-malformed v) in (
@@ -91,11 +81,6 @@ count-exactly f v =
 pub count-absent : (f : List ℕ) → (readCount f ≡ Absent) ↔ (f ≡ replicate 2 32)
 count-absent f =
     absent-spaces Absent Malformed 2 f (allDigits f && ltb 0 (numberOf f)) (Value (numberOf f)) (λ e. not-absent (numberOf f) (sym e)) differs
-
--- ---- 12: "+", twelve digits, spaces
-pub record IsTelephoneOf (f : List ℕ) (v : ℕ) : Type 0 where
-  pub bytes : f ≡ 43 ∷ (digits 12 v ++ replicate 7 32)
-  pub small : v < 10 ^ 12
 
 record Call (f d s : List ℕ) : Type 0 where
   long : length f ≡ 20

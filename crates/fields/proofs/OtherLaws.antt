@@ -20,15 +20,9 @@ use Rattle.fields.specs.declared.others.CountryReading.the-variants as C
 use Rattle.fields.specs.declared.others.EmptyReading.the-variants as Empty
 use Rattle.fields.specs.declared.others.StatusReading.the-variants as Status
 use Rattle.fields.specs.declared.others.MainReading.the-variants as Main
+use Rattle.fields.specs.Meanings.{IsCountryOf}
 use Rattle.fields.proofs.ByteLaws.{both-left, both-right, not-blank}
 use Rattle.fields.proofs.FrameLaws.{GoodPart, value-exactly, absent-spaces}
-
--- ---- 6: two capitals, never CZ
-pub record IsCountryOf (f : List ℕ) (a b : ℕ) : Type 0 where
-  pub bytes : f ≡ a ∷ b ∷ []
-  pub first : (65 ≤ a) × (a ≤ 90)
-  pub second : (65 ≤ b) × (b ≤ 90)
-  pub foreign : a ≡ 67 → b ≡ 90 → ⊥
 
 capital-bounds : (b : ℕ) → isCapital b ≡ true → (65 ≤ b) × (b ≤ 90)
 capital-bounds b h = (leb-true 65 b (both-left (leb 65 b) (leb b 90) h), leb-true b 90 (both-right (leb 65 b) (leb b 90) h))

@@ -12,13 +12,14 @@ use lib.ListN.{length, replicate, length-append, length-replicate}
 use lib.Seq.{append-snoc}
 use Rattle.text.specs.Bytes.{isDigit, every, isBlank}
 use Rattle.text.specs.Numbers.{digits, decimal}
+use Rattle.text.proofs.Booleans.{clash}
 use Rattle.text.proofs.Numbers.{digit-bounds, is-digit}
-use Rattle.text.proofs.Decimals.{places-one, places-are}
+use Rattle.text.proofs.Decimals.{decimal-places-one, decimal-places-are}
 use Rattle.fields.specs.declared.services.Services.{Services}
 use Rattle.fields.specs.declared.services.ServicesReading.the-variants.{Absent, Value, Malformed}
 use Rattle.fields.specs.Texts.{contains}
 use Rattle.fields.specs.Services.{withDigit, codesFrom, codesOf, isCode, bit, hasCode, noServices, withCode, added, readServices}
-use Rattle.fields.specs.ServiceTexts.{written, allDifferent, withCodes, servicesOf, Writes}
+use Rattle.fields.specs.ServiceTexts.{servicesText, allDifferent, withCodes, servicesOf, Writes}
 use Rattle.fields.proofs.Bits.{bit-with, bit-none}
 use Rattle.fields.proofs.ByteLaws.{spaces-blank, blank-exactly}
 
@@ -124,14 +125,14 @@ added-is s (c ∷ cs) = go (isCode c) (hasCode s c) refl (λ new. added-is (with
 module _ (c : ℕ) (low : 1 ≤ c) where
   one-digit : c ≤ 9 → decimal c ≡ (48 + c) ∷ []
   unfolding digits
-  one-digit h = let e : c % 10 ≡ c = omega arith in rw (places-one 19 c (omega arith), e)
+  one-digit h = let e : c % 10 ≡ c = omega arith in rw (decimal-places-one 19 c (omega arith), e)
 
   two-digits : (d : ℕ) → c ≤ 9 → d ≤ 9 → decimal (c * 10 + d) ≡ (48 + c) ∷ (48 + d) ∷ []
   unfolding digits
   two-digits d h l =
       let e₁ : (c * 10 + d) / 10 % 10 ≡ c = omega arith in
       let e₂ : (c * 10 + d) % 10 ≡ d = omega arith in
-      rw (places-are 19 1 (c * 10 + d) (omega arith) (omega arith) (λ s. omega arith), e₁, e₂)
+      rw (decimal-places-are 19 1 (c * 10 + d) (omega arith) (omega arith) (λ s. omega arith), e₁, e₂)
 
 -- one more digit
 digit-on : (c d : ℕ) (f : List ℕ) → c ≤ 9 → d ≤ 9 → 1 ≤ c + d → codesFrom c ((48 + d) ∷ f) ≡ codesFrom (c * 10 + d) f
@@ -165,14 +166,14 @@ unfolding codesFrom every
 spaces-end c zero = refl
 spaces-end c (suc k) = rw (spaces-blank k)
 
--- written codes are read back
-written-codes : (c : ℕ) (cs : List ℕ) (k : ℕ) → every isCode (c ∷ cs) ≡ true → codesOf (written (c ∷ cs) ++ replicate k 32) ≡ c ∷ cs
-unfolding written every codesFrom
+-- servicesText codes are read back
+written-codes : (c : ℕ) (cs : List ℕ) (k : ℕ) → every isCode (c ∷ cs) ≡ true → codesOf (servicesText (c ∷ cs) ++ replicate k 32) ≡ c ∷ cs
+unfolding servicesText every codesFrom
 written-codes c [] k good = code-reads c (replicate k 32) (and-eq-true-iff (isCode c) true .0 good .0) ∙ spaces-end c k
 written-codes c (d ∷ cs) k good =
     let p = and-eq-true-iff (isCode c) (every isCode (d ∷ cs)) .0 good in
-    ap (λ (f : List ℕ). codesFrom 0 f) (append-assoc (decimal c) (43 ∷ written (d ∷ cs)) (replicate k 32))
-    ∙ code-reads c (43 ∷ (written (d ∷ cs) ++ replicate k 32)) (p .0)
+    ap (λ (f : List ℕ). codesFrom 0 f) (append-assoc (decimal c) (43 ∷ servicesText (d ∷ cs)) (replicate k 32))
+    ∙ code-reads c (43 ∷ (servicesText (d ∷ cs) ++ replicate k 32)) (p .0)
     ∙ ap (λ (r : List ℕ). c ∷ r) (written-codes d cs k (p .1))
 
 -- ---- a text whose codes are good is the writing of them
@@ -198,8 +199,8 @@ some-code c (b ∷ f) = go (isDigit b) (eqb b 43) (some-code (withDigit c (b - 4
     go false true rest = omega arith
     go false false rest = omega arith
 
-written-more : (c : ℕ) (cs : List ℕ) → 1 ≤ length cs → written (c ∷ cs) ≡ decimal c ++ 43 ∷ written cs
-unfolding written
+written-more : (c : ℕ) (cs : List ℕ) → 1 ≤ length cs → servicesText (c ∷ cs) ≡ decimal c ++ 43 ∷ servicesText cs
+unfolding servicesText
 written-more c [] h = absurd (omega arith)
 written-more c (d ∷ cs) h = refl
 
@@ -221,7 +222,7 @@ so-far-on (suc c) d h l p =
 
 -- the digits so far and the rest f are the writing of the codes that come of them
 abbrev Back : ℕ → List ℕ → Type 0
-Back c f = every isCode (codesFrom c f) ≡ true → (k : ℕ) × (soFar c ++ f ≡ written (codesFrom c f) ++ replicate k 32)
+Back c f = every isCode (codesFrom c f) ≡ true → (k : ℕ) × (soFar c ++ f ≡ servicesText (codesFrom c f) ++ replicate k 32)
 
 both-codes : (c : ℕ) (cs : List ℕ) → every isCode (c ∷ cs) ≡ true → (isCode c ≡ true) × (every isCode cs ≡ true)
 unfolding every
@@ -232,7 +233,7 @@ module _ (c b : ℕ) (f : List ℕ) where
   unfolding codesFrom
   back-digit digit rest good = go (leb c 9 && not (eqb (c + (b - 48)) 0)) refl (rw digit at good)
     where
-      go : (t : Bool) → (leb c 9 && not (eqb (c + (b - 48)) 0)) ≡ t → every isCode (codesFrom (withDigit c (b - 48)) f) ≡ true → (k : ℕ) × (soFar c ++ b ∷ f ≡ written (codesFrom c (b ∷ f)) ++ replicate k 32)
+      go : (t : Bool) → (leb c 9 && not (eqb (c + (b - 48)) 0)) ≡ t → every isCode (codesFrom (withDigit c (b - 48)) f) ≡ true → (k : ℕ) × (soFar c ++ b ∷ f ≡ servicesText (codesFrom c (b ∷ f)) ++ replicate k 32)
       go true e h =
           let p = and-eq-true-iff (leb c 9) (not (eqb (c + (b - 48)) 0)) .0 e in
           let small = leb-true c 9 (p .0) in
@@ -242,10 +243,7 @@ module _ (c b : ℕ) (f : List ℕ) where
           let on : soFar (c * 10 + (b - 48)) ≡ soFar c ++ b ∷ [] = so-far-on c (b - 48) small (omega arith) (omega arith) ∙ rw same in
           let r = rest (c * 10 + (b - 48)) (rw e at h) in
           (r .0, rw (digit, e) (sym (append-snoc (soFar c) b f) ∙ (rw on at (r .1))))
-      go false e h = let z : _≡_ {A = ℕ} 0 1 = clash (sym (never-code f) ∙ (rw e at h)) in absurd (omega arith)
-        where
-          clash : false ≡ true → _≡_ {A = ℕ} 0 1
-          clash q = cc
+      go false e h = absurd (clash (rw e at h) (never-code f))
 
   back-plus : b ≡ 43 → Back 0 f → Back c (b ∷ f)
   unfolding codesFrom
@@ -254,19 +252,19 @@ module _ (c b : ℕ) (f : List ℕ) where
       let r = rest (p .1) in (
         r .0,
         rw (plus, so-far c (p .0), written-more c (codesFrom 0 f) (some-code 0 f))
-            (ap (λ (x : List ℕ). decimal c ++ 43 ∷ x) (r .1) ∙ sym (append-assoc (decimal c) (43 ∷ written (codesFrom 0 f)) (replicate (r .0) 32))),
+            (ap (λ (x : List ℕ). decimal c ++ 43 ∷ x) (r .1) ∙ sym (append-assoc (decimal c) (43 ∷ servicesText (codesFrom 0 f)) (replicate (r .0) 32))),
       )
 
   back-other : isDigit b ≡ false → eqb b 43 ≡ false → Back c (b ∷ f)
-  unfolding codesFrom written
+  unfolding codesFrom servicesText
   back-other d p good = go (isBlank (b ∷ f)) refl (both-codes (cond (isBlank (b ∷ f)) c 100) [] (rw (d, p) at good) .0)
     where
-      go : (t : Bool) → isBlank (b ∷ f) ≡ t → isCode (cond t c 100) ≡ true → (k : ℕ) × (soFar c ++ b ∷ f ≡ written (codesFrom c (b ∷ f)) ++ replicate k 32)
+      go : (t : Bool) → isBlank (b ∷ f) ≡ t → isCode (cond t c 100) ≡ true → (k : ℕ) × (soFar c ++ b ∷ f ≡ servicesText (codesFrom c (b ∷ f)) ++ replicate k 32)
       go true e code = (length (b ∷ f), rw (d, p, e, so-far c code) (ap (λ (x : List ℕ). decimal c ++ x) (blank-exactly (length (b ∷ f)) (b ∷ f) .0 (refl, e))))
       go false e code = let z : _≡_ {A = ℕ} 0 1 = cc in absurd (omega arith)
 
 codes-written : (c : ℕ) (f : List ℕ) → Back c f
-unfolding codesFrom written every
+unfolding codesFrom servicesText every
 codes-written c [] good = (0, rw (so-far c (and-eq-true-iff (isCode c) true .0 good .0)))
 codes-written c (b ∷ f) good = go (isDigit b) (eqb b 43) refl refl (λ n. codes-written n f) good
   where
@@ -293,8 +291,8 @@ read-writes f s r = go (eqb (length f) 30) (isBlank f) (addable noServices (code
         let p = and-eq-true-iff (every isCode (codesOf f)) (allDifferent (codesOf f) && apart noServices (codesOf f)) .0 ea in
         let q = and-eq-true-iff (allDifferent (codesOf f)) (apart noServices (codesOf f)) .0 (p .1) in
         let back = codes-written 0 f (p .0) in
-        let size : length (written (codesOf f)) + back .0 ≡ 30 = sym (length-append (written (codesOf f)) (replicate (back .0) 32) ∙ ap (λ (n : ℕ). length (written (codesOf f)) + n) (length-replicate (back .0) 32)) ∙ ap length (sym (back .1)) ∙ long in
-        let rest : back .0 ≡ 30 - length (written (codesOf f)) = omega arith in (
+        let size : length (servicesText (codesOf f)) + back .0 ≡ 30 = sym (length-append (servicesText (codesOf f)) (replicate (back .0) 32) ∙ ap (λ (n : ℕ). length (servicesText (codesOf f)) + n) (length-replicate (back .0) 32)) ∙ ap length (sym (back .1)) ∙ long in
+        let rest : back .0 ≡ 30 - length (servicesText (codesOf f)) = omega arith in (
           codesOf f,
           record {
             some = some-code 0 f;
@@ -313,7 +311,7 @@ zero-no-code e = cc
 -- the codes are those that the text says, in its order: no other list has this writing
 pub codes-are : (f : List ℕ) (s : Services) (cs : List ℕ) → Writes f s cs → codesOf f ≡ cs
 codes-are f s [] w = absurd (omega (arith, w .some))
-codes-are f s (c ∷ cs) w = ap codesOf (w .text) ∙ written-codes c cs (30 - length (written (c ∷ cs))) (w .codes)
+codes-are f s (c ∷ cs) w = ap codesOf (w .text) ∙ written-codes c cs (30 - length (servicesText (c ∷ cs))) (w .codes)
 
 writes-read : (f : List ℕ) (s : Services) (cs : List ℕ) → Writes f s cs → readServices f ≡ Value s
 unfolding readServices

@@ -13,6 +13,7 @@ use Rattle.text.specs.Bytes.{every, isBlank}
 use Rattle.fields.specs.Texts.{isText, filled, readText}
 use Rattle.fields.specs.declared.texts.TextReading.the-variants.{Absent, Value, Malformed}
 use Rattle.text.proofs.Booleans.{clash}
+use Rattle.fields.specs.Meanings.{IsTextOf}
 use Rattle.fields.proofs.ByteLaws.{class-exactly, both-left, both-right, blank-exactly, not-blank}
 use Rattle.fields.proofs.FrameLaws.{value-exactly, absent-spaces}
 
@@ -89,16 +90,6 @@ ends-filled (b ∷ s) (suc (suc n)) e =
 -- `filled` is the length of what stands before the spaces at the end
 pub filled-exactly : (s : List ℕ) (n : ℕ) → ((isBlank s ≡ false) × (filled s ≡ n)) ↔ Ends s n
 filled-exactly s n = (λ p. rw (p .1) at (filled-ends s (p .0)), λ e. (ends-not-blank s n e, ends-filled s n e))
-
--- ---- 4, 7 to 11, 20, 26: bytes 20h-7Eh and 80h-FFh, the first not a space; n of them, the last of these not a space, then only spaces
-pub record IsTextOf (w : ℕ) (f : List ℕ) (n : ℕ) : Type 0 where
-  pub long : length f ≡ w
-  pub bytes : every isText f ≡ true
-  pub some : 0 < n
-  pub within : n ≤ w
-  pub first : getD f 0 0 ≡ 32 → ⊥
-  pub last : getD f (n - 1) 0 ≡ 32 → ⊥
-  pub spaces : drop n f ≡ replicate (w - n) 32
 
 text-is : (w : ℕ) (f : List ℕ) (n : ℕ) → length f ≡ w → every isText f ≡ true → not (eqb (getD f 0 0) 32) ≡ true → Ends f n → IsTextOf w f n
 text-is w f n l h s e = record {

@@ -6,17 +6,18 @@ use mathlib.Core.Bool.{Bool, true, false, cond, not, _&&_, and-eq-true-iff, and-
 use mathlib.Core.List.{List, [], _∷_}
 use native.Mathlib.Omega.{arith}
 use native.Mathlib.Nat.{sub-zero}
-use borrow.Author.Tests.{eq-eqb, ne-eqb, lt-ltb, le-leb, lt-leb, eqb-true, eqb-false, leb-true, leb-false, not-false}
+use borrow.Author.Tests.{eq-eqb, ne-eqb, lt-ltb, le-leb, lt-leb, eqb-true, eqb-false, leb-true, leb-false, not-true, not-false}
 use lib.Dec.{eqb, leb, ltb}
 use lib.ListN.{length, getD, take, drop, length-drop, List·getD-eq-default}
 use lib.Seq.{take-all, drop-length, drop-drop}
 use Rattle.text.specs.Bytes.{every, isSpace, isBlank, run}
 use Rattle.text.specs.Lists.{part}
+use Rattle.text.proofs.Booleans.{clash}
 use Rattle.text.proofs.Lists.{step, ended}
 use Rattle.text.proofs.Words.{every-split}
 use Rattle.fields.specs.declared.texts.TextReading.the-variants.{Absent, Value, Malformed}
 use Rattle.fields.specs.Texts.{isText, filled, readText, isPlain, contains, behindAt, isHost, isMail, mailEnd, readMail}
-use Rattle.fields.proofs.Frames.{frame-good, frame-bad}
+use Rattle.fields.proofs.Frames.{frame-blank, frame-good, frame-bad}
 use Rattle.fields.proofs.TextLaws.{filled-blank, filled-exactly}
 
 -- ---- is_text
@@ -60,7 +61,7 @@ filled-start f = rw drop-length
 pub filled-none : (f : List ℕ) (n : ℕ) → n ≤ 0 → isBlank (drop n f) ≡ true → n ≡ filled f
 filled-none f n h known = let z : n ≡ 0 = omega arith in rw z (sym (filled-blank f (rw z at known)))
 
--- ---- text_length: the spaces at the end are text
+-- ---- the spaces at the end are text
 blank-text : (s : List ℕ) → isBlank s ≡ true → every isText s ≡ true
 unfolding every
 blank-text [] e = refl
@@ -77,40 +78,35 @@ front-text (b ∷ s) = go (isBlank (b ∷ s)) refl (front-text s)
     go true e later = sym (blank-text (b ∷ s) e)
     go false e later = rw later
 
-module _ (f : List ℕ) (n : ℕ) (t : Bool) (en : n ≡ filled f) (et : t ≡ every isText (take (n - 0) (drop 0 f))) where
-  front-is : t ≡ every isText f
-  front-is = et ∙ rw (sub-zero n, en) (front-text f)
-
-  pub text-whole : t ≡ true → n ≡ cond (every isText f) (filled f) 0
-  text-whole e = rw (← front-is, e) en
-
-  pub text-broken : t ≡ false → 0 ≡ cond (every isText f) (filled f) 0
-  text-broken e = rw (← front-is, e)
-
--- ---- read_text
+-- ---- read_text: nothing stands before the spaces exactly if all is blank
 filled-some : (s : List ℕ) → isBlank s ≡ false → 0 < filled s
 unfolding filled every
-filled-some [] e = let z : _≡_ {A = ℕ} 0 1 = cc in omega arith
+filled-some [] e = absurd (clash refl e)
 filled-some (b ∷ s) e = rw e (omega arith)
 
-module _ (w : ℕ) (f : List ℕ) (b p : Bool) (n : ℕ) (long : length f ≡ w) (eb : b ≡ isBlank f) (nb : b ≡ false)
-    (en : n ≡ cond (every isText f) (filled f) 0) (ep : p ≡ eqb (getD f 0 0) 32) where
-  tests : (ltb 0 n && not p) ≡ (every isText f && not (eqb (getD f 0 0) 32))
-  tests = rw (← ep, en) (go (every isText f))
+module _ (w : ℕ) (f : List ℕ) (n : ℕ) (long : length f ≡ w) (en : (n ≡ filled f) × (n ≤ length f)) where
+  pub text-absent : n ≡ 0 → Absent ≡ readText w f
+  text-absent z = frame-blank Absent Malformed (Value (filled f)) w f (every isText f && not (eqb (getD f 0 0) 32)) (isBlank f) long refl (all (isBlank f) refl)
     where
-      go : (t : Bool) → (ltb 0 (cond t (filled f) 0) && not p) ≡ (t && not p)
-      go true = rw (lt-ltb 0 (filled f) (filled-some f (sym eb ∙ nb)))
-      go false = refl
+      all : (b : Bool) → isBlank f ≡ b → b ≡ true
+      all true e = refl
+      all false e = absurd (omega (arith, filled-some f e, en .0, z))
 
-  pub text-value : (ltb 0 n && not p) ≡ true → Value n ≡ readText w f
-  text-value g =
-      let good = sym tests ∙ g in
-      let all = and-eq-true-iff (every isText f) (not (eqb (getD f 0 0) 32)) .0 good .0 in
-      let whole : n ≡ filled f = en ∙ rw all in
-      rw whole (frame-good Absent Malformed (Value (filled f)) w f (every isText f && not (eqb (getD f 0 0) 32)) b long eb nb good)
+  module _ (some : n ≡ 0 → ⊥) (t p : Bool) (et : t ≡ every isText (take (n - 0) (drop 0 f))) (ep : p ≡ eqb (getD f 0 0) 32) where
+    not-all : (b : Bool) → isBlank f ≡ b → b ≡ false
+    not-all true e = absurd (some (en .0 ∙ filled-blank f e))
+    not-all false e = refl
 
-  pub text-bad : (ltb 0 n && not p) ≡ false → Malformed ≡ readText w f
-  text-bad g = frame-bad Absent Malformed (Value (filled f)) w f (every isText f && not (eqb (getD f 0 0) 32)) b long eb nb (sym tests ∙ g)
+    tests : (t && not p) ≡ (every isText f && not (eqb (getD f 0 0) 32))
+    tests = rw (et, ep, sub-zero n, en .0, front-text f)
+
+    pub text-value : (t && not p) ≡ true → Value n ≡ readText w f
+    text-value g =
+        rw (en .0)
+        (frame-good Absent Malformed (Value (filled f)) w f (every isText f && not (eqb (getD f 0 0) 32)) (isBlank f) long refl (not-all (isBlank f) refl) (sym tests ∙ g))
+
+    pub text-bad : (t && not p) ≡ false → Malformed ≡ readText w f
+    text-bad g = frame-bad Absent Malformed (Value (filled f)) w f (every isText f && not (eqb (getD f 0 0) 32)) (isBlank f) long refl (not-all (isBlank f) refl) (sym tests ∙ g)
 
 pub starts-empty : (f : List ℕ) (b : ℕ) → length f ≡ 0 → eqb b 0 ≡ eqb (getD f 0 0) b
 starts-empty [] b e = go (eqb b 0) refl
@@ -178,11 +174,11 @@ module _ (f : List ℕ) (b : Bool) (a : ℕ) (long : length f ≡ 50) (eb : b �
   unfolding isMail
   mail-full z = bad-by (rw (← ea .0, z, List·getD-eq-default f 0 {n = 50} (omega arith)))
 
-  pub mail-no-at : (getD f a 0 ≡ 64 → ⊥) → Malformed ≡ readMail f
+  pub mail-no-at : not (eqb (getD f a 0) 64) ≡ true → Malformed ≡ readMail f
   unfolding isMail
-  mail-no-at n = bad-by (rw (← ea .0, ne-eqb (getD f a 0) 64 n, and-false))
+  mail-no-at n = bad-by (rw (← ea .0, not-true (eqb (getD f a 0) 64) n, and-false))
 
-  module _ (n : ℕ) (some : a ≡ 0 → ⊥) (at : getD f a 0 ≡ 64)
+  module _ (n : ℕ) (some : a ≡ 0 → ⊥) (at : not (eqb (getD f a 0) 64) ≡ false)
       (en : (n ≡ cond (isHost (take (length f - (a + 1)) (drop (a + 1) f))) (run isPlain (take (length f - (a + 1)) (drop (a + 1) f))) 0) × (n ≤ length (take (length f - (a + 1)) (drop (a + 1) f)))) where
     behind : take (length f - (a + 1)) (drop (a + 1) f) ≡ behindAt f
     behind = take-all (length f - (a + 1)) (drop (a + 1) f) (rw length-drop (omega arith)) ∙ rw (ea .0)
@@ -192,7 +188,7 @@ module _ (f : List ℕ) (b : Bool) (a : ℕ) (long : length f ≡ 50) (eb : b �
 
     is-mail : isMail f ≡ isHost (behindAt f)
     unfolding isMail
-    is-mail = rw (ap (λ (k : ℕ). ltb 0 k) (sym (ea .0)), lt-ltb 0 a (omega arith), ap (λ (k : ℕ). eqb (getD f k 0) 64) (sym (ea .0)), eq-eqb (getD f a 0) 64 at)
+    is-mail = rw (ap (λ (k : ℕ). ltb 0 k) (sym (ea .0)), lt-ltb 0 a (omega arith), ap (λ (k : ℕ). eqb (getD f k 0) 64) (sym (ea .0)), not-false (eqb (getD f a 0) 64) at)
 
     pub mail-no-host : n ≡ 0 → Malformed ≡ readMail f
     mail-no-host z = bad-by (is-mail ∙ go (isHost (behindAt f)) refl)

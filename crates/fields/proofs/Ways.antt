@@ -2,15 +2,18 @@
 -- Assumes nothing.
 use Prim.Native.Nat.{ℕ, _+_, _-_, _*_, _≤_}
 use mathlib.Core.Path.{_≡_, refl, sym, _∙_}
-use mathlib.Core.Bool.{Bool, true, false, cond, not, _&&_, _||_, and-eq-true-iff}
+use mathlib.Core.Bool.{Bool, true, false, cond, not, _&&_, _||_}
 use mathlib.Core.List.{List}
 use native.Mathlib.Omega.{arith}
 use borrow.Author.Tests.{eq-eqb, ne-eqb, leb-true}
+use mir.Syntax.{w64}
+use mir.Val.{Fits}
 use lib.Dec.{eqb, leb, ltb}
-use lib.ListN.{length, getD, length-take}
+use lib.ListN.{length, getD}
 use Rattle.text.specs.Bytes.{isCapital, allDigits, isBlank}
 use Rattle.text.specs.Lists.{part}
 use Rattle.text.specs.Numbers.{numberOf, numberOfFirst}
+use Rattle.text.proofs.Booleans.{both}
 use Rattle.text.proofs.Numbers.{few-digits, few}
 use Rattle.ident.specs.declared.Parts.{Parts}
 use Rattle.ident.specs.declared.Reading.{Reading}
@@ -145,17 +148,28 @@ days-few y m = go (eqb m 2) (isLeap y) (eqb m 4 || eqb m 6 || eqb m 9 || eqb m 1
     go false b true = omega arith
     go false b false = omega arith
 
-both : (a b : Bool) → (a && b) ≡ true → (a ≡ true) × (b ≡ true)
-both a b h = and-eq-true-iff a b .0 h
+-- what a real date multiplies and adds up has 64 bits
+module _ (y m d : ℕ) (a r : Bool) (er : r ≡ realDate y m d) (good : (a && r) ≡ true) where
+  date-small : (y ≤ 2099) × (m ≤ 12) × (d ≤ 31)
+  date-small =
+      let p = both (leb 2000 y && leb y 2099 && leb 1 m && leb m 12 && leb 1 d) (leb d (daysIn y m)) (sym er ∙ both a r good .1) in
+      let q = both (leb 2000 y && leb y 2099 && leb 1 m && leb m 12) (leb 1 d) (p .0) in
+      let s = both (leb 2000 y && leb y 2099 && leb 1 m) (leb m 12) (q .0) in
+      let u = both (leb 2000 y && leb y 2099) (leb 1 m) (s .0) in
+      let v = both (leb 2000 y) (leb y 2099) (u .0) in
+      (leb-true y 2099 (v .1), leb-true m 12 (s .1), omega (arith, leb-true d (daysIn y m) (p .1), days-few y m))
 
-pub date-small : (y m d : ℕ) (a r : Bool) → r ≡ realDate y m d → (a && r) ≡ true → (y ≤ 2099) × (m ≤ 12) × (d ≤ 31)
-date-small y m d a r e h =
-    let p = both (leb 2000 y && leb y 2099 && leb 1 m && leb m 12 && leb 1 d) (leb d (daysIn y m)) (sym e ∙ both a r h .1) in
-    let q = both (leb 2000 y && leb y 2099 && leb 1 m && leb m 12) (leb 1 d) (p .0) in
-    let s = both (leb 2000 y && leb y 2099 && leb 1 m) (leb m 12) (q .0) in
-    let u = both (leb 2000 y && leb y 2099) (leb 1 m) (s .0) in
-    let v = both (leb 2000 y) (leb y 2099) (u .0) in
-    (leb-true y 2099 (v .1), leb-true m 12 (s .1), omega (arith, leb-true d (daysIn y m) (p .1), days-few y m))
+  pub year-fits : Fits w64 (y * 10000)
+  year-fits = record { fits = omega (arith, date-small) }
+
+  pub month-fits : Fits w64 (m * 100)
+  month-fits = record { fits = omega (arith, date-small) }
+
+  pub year-month-fits : Fits w64 (y * 10000 + m * 100)
+  year-month-fits = record { fits = omega (arith, date-small) }
+
+  pub date-fits : Fits w64 (y * 10000 + m * 100 + d)
+  date-fits = record { fits = omega (arith, date-small) }
 
 -- ---- times
 pub time-form : (f : List ℕ) (a b d : Bool) → a ≡ allDigits (part f 0 2) → b ≡ allDigits (part f 3 5) → d ≡ allDigits (part f 6 8)
@@ -188,8 +202,22 @@ module _ (f : List ℕ) (h m s : ℕ) (a : Bool) (long : length f ≡ 8) (eh : h
   unfolding readTime
   time-bad g = rw (eq-eqb (length f) 8 long, timely false g)
 
-pub time-small : (h m s : ℕ) (a : Bool) → (a && leb h 23 && leb m 59 && leb s 59) ≡ true → (h ≤ 23) × (m ≤ 59) × (s ≤ 59)
-time-small h m s a g =
-    let p = both (a && leb h 23 && leb m 59) (leb s 59) g in
-    let q = both (a && leb h 23) (leb m 59) (p .0) in
-    (leb-true h 23 (both a (leb h 23) (q .0) .1), leb-true m 59 (q .1), leb-true s 59 (p .1))
+-- what a time multiplies and adds up has 64 bits
+module _ (h m s : ℕ) (a : Bool) (good : (a && leb h 23 && leb m 59 && leb s 59) ≡ true) where
+  time-small : (h ≤ 23) × (m ≤ 59) × (s ≤ 59)
+  time-small =
+      let p = both (a && leb h 23 && leb m 59) (leb s 59) good in
+      let q = both (a && leb h 23) (leb m 59) (p .0) in
+      (leb-true h 23 (both a (leb h 23) (q .0) .1), leb-true m 59 (q .1), leb-true s 59 (p .1))
+
+  pub hours-fit : Fits w64 (h * 3600)
+  hours-fit = record { fits = omega (arith, time-small) }
+
+  pub minutes-fit : Fits w64 (m * 60)
+  minutes-fit = record { fits = omega (arith, time-small) }
+
+  pub hours-minutes-fit : Fits w64 (h * 3600 + m * 60)
+  hours-minutes-fit = record { fits = omega (arith, time-small) }
+
+  pub time-fits : Fits w64 (h * 3600 + m * 60 + s)
+  time-fits = record { fits = omega (arith, time-small) }

@@ -18,7 +18,7 @@ use Rattle.fields.specs.declared.amounts.WeightReading.the-variants as W
 use Rattle.fields.specs.Frame.{framed}
 use Rattle.fields.specs.Amounts.{isWeight, gramsIn, grams, readWeight, weightText}
 use Rattle.fields.specs.Calls.{hasWeightText, weightBytes}
-use Rattle.fields.proofs.FrameLaws.{Way, blank, valued, neither, way}
+use Rattle.fields.proofs.FrameLaws.{value-exactly, read-written}
 
 -- ---- the writing of a number is read back
 -- below 10 kg: a space, then the digits
@@ -138,24 +138,25 @@ good-is-written : (f : List ℕ) → length f ≡ 6 → isWeight f ≡ true → 
 unfolding numberAfter
 good-is-written f long good = rw (spelled 6 f long) (good-six _ _ _ _ _ _ _ (form-is _ _ _ _ _ _ (rw (spelled 6 f long) at good)) (omega arith))
 
+no-absence : (v : ℕ) → Weight.Absent ≡ grams v → ⊥
+no-absence v e = let z : _≡_ {A = ℕ} 0 1 = cc in omega arith
+
+no-malformed : (v : ℕ) → Weight.Malformed ≡ grams v → ⊥
+no-malformed v e = let z : _≡_ {A = ℕ} 0 1 = cc in omega arith
+
 grams-of : (m n : ℕ) → grams m ≡ grams n → m ≡ n
 grams-of m n e = ap number e
   where
     number : WeightReading → ℕ
     number Weight.Absent = 0
-    number (Weight.Value g) = g .0
+    number (Weight.Value x) = x .0
     number Weight.Malformed = 0
 
 -- a field that reads as a number is the writing of that number
 read-is-written : (f : List ℕ) (v : ℕ) → readWeight f ≡ grams v → (v < 100000) × (f ≡ weightText v)
-read-is-written f v r = go (way Weight.Absent Weight.Malformed 6 f (isWeight f) (grams (gramsIn f)))
-  where
-    go : Way Weight.Absent Weight.Malformed 6 f (isWeight f) (grams (gramsIn f)) (readWeight f) → (v < 100000) × (f ≡ weightText v)
-    go (blank e s) = let z : _≡_ {A = ℕ} 0 1 = cc in absurd (omega arith)
-    go (valued e p) =
-        let same : gramsIn f ≡ v = grams-of (gramsIn f) v (sym e ∙ r) in
-        rw same at (good-is-written f (p .long) (p .fine))
-    go (neither e) = let z : _≡_ {A = ℕ} 0 1 = cc in absurd (omega arith)
+read-is-written f v r =
+    let p = value-exactly Weight.Absent Weight.Malformed 6 f (isWeight f) (grams (gramsIn f)) (grams v) (no-absence v) (no-malformed v) .0 r in
+    rw (grams-of (gramsIn f) v (p .1)) at (good-is-written f (p .0 .long) (p .0 .fine))
 
 -- each number below 100000 has exactly one writing, and no other number has one
 pub weight-exactly : (f : List ℕ) (v : ℕ) → (readWeight f ≡ grams v) ↔ ((v < 100000) × (f ≡ weightText v))
@@ -164,12 +165,8 @@ weight-exactly f v = (read-is-written f v, λ p. ap readWeight (p .1) ∙ weight
 -- ---- a field that is not malformed, read and written: the field again, blank where the weight is absent
 pub weight-read-written : (f : List ℕ) → (readWeight f ≡ Weight.Malformed → ⊥) → weightBytes (readWeight f) ≡ f
 unfolding weightBytes
-weight-read-written f good = go (way Weight.Absent Weight.Malformed 6 f (isWeight f) (grams (gramsIn f)))
-  where
-    go : Way Weight.Absent Weight.Malformed 6 f (isWeight f) (grams (gramsIn f)) (readWeight f) → weightBytes (readWeight f) ≡ f
-    go (blank e s) = rw e (sym s)
-    go (valued e p) = rw e (sym (good-is-written f (p .long) (p .fine) .1))
-    go (neither e) = absurd (good e)
+weight-read-written f good =
+    read-written Weight.Absent Weight.Malformed 6 f (isWeight f) (grams (gramsIn f)) weightBytes refl (λ p. sym (good-is-written f (p .long) (p .fine) .1)) good
 
 -- ---- and a reading that has a writing, written and read: the reading again, absent where it was absent
 pub weight-reading-back : (m : WeightReading) → hasWeightText m ≡ true → readWeight (weightBytes m) ≡ m

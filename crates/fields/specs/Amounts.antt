@@ -8,7 +8,7 @@ use lib.ListN.{getD, replicate}
 use lib.Dec.{eqb, leb, ltb}
 use Rattle.text.specs.Bytes.{isDigit, allDigits, isBlank, run}
 use Rattle.text.specs.Lists.{part}
-use Rattle.text.specs.Numbers.{numberOf, digits, places, decimal}
+use Rattle.text.specs.Numbers.{numberOf, digits, decimalPlaces, decimal}
 use Rattle.layout.specs.Layout.{widthOf}
 use Rattle.fields.specs.Frame.{framed}
 use Rattle.fields.specs.declared.amounts.WeightReading.{WeightReading}
@@ -68,7 +68,7 @@ readMoney f = framed Money.Absent Money.Malformed (widthOf 16) f (isMoney f) (he
 
 -- the one writing of so many haléře
 unfoldable pub moneyText : ℕ → List ℕ
-moneyText v = decimal (v / 100) ++ 46 ∷ (digits 2 v ++ replicate (9 - places (v / 100)) 32)
+moneyText v = decimal (v / 100) ++ 46 ∷ (digits 2 v ++ replicate (9 - decimalPlaces (v / 100)) 32)
 
 pub price-as-wide-as-cash : widthOf 17 ≡ widthOf 16
 price-as-wide-as-cash = refl

@@ -8,4 +8,5 @@ pub mod Services
 pub mod ServiceTexts
 pub mod Scans
 pub mod Calls
+pub mod Meanings
 pub mod Examples

@@ -13,10 +13,10 @@ use Rattle.fields.specs.Texts.{contains}
 use Rattle.fields.specs.Services.{isCode, noServices, withCode}
 
 -- codes in decimal, joined by "+"
-unfoldable pub written : List ℕ → List ℕ
-written [] = []
-written (c ∷ []) = decimal c
-written (c ∷ d ∷ cs) = decimal c ++ 43 ∷ written (d ∷ cs)
+unfoldable pub servicesText : List ℕ → List ℕ
+servicesText [] = []
+servicesText (c ∷ []) = decimal c
+servicesText (c ∷ d ∷ cs) = decimal c ++ 43 ∷ servicesText (d ∷ cs)
 
 -- no code twice
 unfoldable pub allDifferent : List ℕ → Bool
@@ -37,5 +37,5 @@ pub record Writes (f : List ℕ) (s : Services) (cs : List ℕ) : Type 0 where
   pub codes : every isCode cs ≡ true
   pub different : allDifferent cs ≡ true
   pub long : length f ≡ widthOf 18
-  pub text : f ≡ written cs ++ replicate (widthOf 18 - length (written cs)) 32
+  pub text : f ≡ servicesText cs ++ replicate (widthOf 18 - length (servicesText cs)) 32
   pub set : s ≡ servicesOf cs

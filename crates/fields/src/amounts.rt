@@ -2,7 +2,7 @@
 ghost use mathlib.Core.Path.{_≡_};
 ghost use mathlib.Core.Bool.{true, cond};
 ghost use Prim.Native.Nat.{_+_, _/_, _≤_, _<_};
-ghost use lib.ListN.{length};
+ghost use lib.ListN.{length, set};
 ghost use lib.Dec.{ltb};
 ghost use Rattle.text.specs.Promises.{Gives};
 ghost use Rattle.text.specs.Lists.{overlay};
@@ -233,16 +233,23 @@ pub fn write_weight(part: &mut [u8], m: WeightReading) -> Answer
     }
 }
 
+// Puts crowns of n digits, a dot and two digits at the front.
+fn put_crowns_and_hellers(part: &mut [u8], n: usize, v: u64)
+    requires { ⌜ (length (now part) ≡ 12) × (n ≤ 9) ⌝ }
+    ensures { λ _. ⌜ now (part .exit) ≡ overlay (set (overlay (now (part .entry)) 0 (digits n (v / 100))) n 46) (n + 1) (digits 2 v) ⌝ }
+{
+    put_digits_at(part, 0, n, v / 100);
+    part[n] = b'.';
+    put_digits_at(part, n + 1, 2, v);
+}
+
 fn put_money(part: &mut [u8], v: u64)
     requires { ⌜ (length (now part) ≡ 12) × (v < 100000000000) ⌝ }
     ensures { λ _. ⌜ now (part .exit) ≡ moneyText v ⌝ }
 {
-    let crowns = v / 100;
-    let n = text::places(crowns);
+    let n = text::decimal_places(v / 100);
     text::fill(part, b' ');
-    put_digits_at(part, 0, n, crowns);
-    part[n] = b'.';
-    put_digits_at(part, n + 1, 2, v);
+    put_crowns_and_hellers(part, n, v);
 }
 
 pub fn write_money(part: &mut [u8], m: MoneyReading) -> Answer

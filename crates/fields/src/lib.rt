@@ -1,10 +1,10 @@
 // Readings of a record's fields, an enum per kind: absent, the value as data, or malformed; and the writings of weight and money.
-mod amounts;
-mod dates;
-mod numbers;
-mod others;
-mod services;
-mod texts;
+mod amounts; // 15 to 17: weight and money
+mod dates; // 2 and 3: date and time
+mod numbers; // 5, 12, 21, 23, 24: postcode, telephone, variable symbol, serial, pieces
+mod others; // 6, 14, 19, 22, 25: country, status, main consignment, and those that stay blank
+mod services; // 18: services
+mod texts; // 4, 7 to 11, 13, 20, 26: texts and e-mail
 
 pub use amounts::Grams;
 pub use amounts::Hellers;

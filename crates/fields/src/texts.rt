@@ -77,6 +77,10 @@ fn all_text(f: &[u8]) -> bool
         }
         i += 8;
     }
+    // The last eight at once, as in `text::blank`.
+    if 8 <= f.len() {
+        return text8(f, f.len() - 8);
+    }
     while i < f.len() {
         if !is_text(f[i]) {
             return false;
@@ -115,14 +119,6 @@ fn filled(f: &[u8]) -> usize
     n
 }
 
-// How many bytes stand before the spaces at the end; 0 where some byte is no text.
-fn text_length(f: &[u8]) -> usize
-    ensures { λ r. ⌜ r ≡ cond (every isText (now (f .entry))) (filled (now (f .entry))) 0 ⌝ }
-{
-    let n = filled(f);
-    if all_text(&f[0..n]) { n } else { 0 }
-}
-
 // Reads a text field of so many bytes.
 pub fn read_text(f: &[u8], width: usize) -> TextReading
     ensures { λ r. ⌜ Gives (readText width (now (f .entry))) r ⌝ }
@@ -130,11 +126,11 @@ pub fn read_text(f: &[u8], width: usize) -> TextReading
     if f.len() != width {
         return TextReading::Malformed;
     }
-    if text::blank(f) {
+    let n = filled(f);
+    if n == 0 {
         return TextReading::Absent;
     }
-    let n = text_length(f);
-    let good = (0 < n) & !starts_with(f, b' ');
+    let good = all_text(&f[0..n]) & !starts_with(f, b' ');
     if good {
         TextReading::Value(n)
     } else {
@@ -210,7 +206,8 @@ pub fn read_mail(f: &[u8]) -> TextReading
     if at == MAIL_WIDTH {
         return TextReading::Malformed;
     }
-    if f[at] != b'@' {
+    let parted = f[at] == b'@';
+    if !parted {
         return TextReading::Malformed;
     }
     let behind = at + 1;

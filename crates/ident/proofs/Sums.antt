@@ -6,6 +6,8 @@ use mathlib.Core.List.{List, [], _∷_}
 use native.Mathlib.Nat.{mul-le-mul, le-pred-of-lt, suc-add}
 use native.Mathlib.Numerals.{add-one}
 use native.Mathlib.Omega.{arith}
+use mir.Syntax.{w64}
+use mir.Val.{Fits}
 use lib.Dec.{eqb, ltb, eqb→eq, ltb→lt}
 use lib.ListN.{length, getD, drop}
 use lib.Seq.{drop-cons}
@@ -16,9 +18,19 @@ use Rattle.ident.specs.Identifier.{weights, weighted}
 weight-small : (k : ℕ) → k < 9 → getD weights k 0 < 10
 weight-small k h = ltb→lt (getD weights k 0) 10 (below (λ j. ltb (getD weights j 0) 10) 9 k tt h)
 
--- a weight times the value of any byte
-pub product-small : {i n v : ℕ} (skip : ℕ) → i < n → n + skip ≤ 9 → v < 208 → getD weights (i + skip) 0 * v < 2560
-product-small {i} skip h k q = omega (arith, mul-le-mul {n₂ = 9} {m₂ = 207} (le-pred-of-lt (weight-small (i + skip) (omega arith))) (le-pred-of-lt q))
+-- a weight times the value of any byte, and the sum with it
+module _ (s : List ℕ) (i skip v sum : ℕ) (short : length s + skip ≤ 9) (inside : i < length s) (byte : v < 208) where
+  product-small : getD weights (i + skip) 0 * v < 2560
+  product-small = omega (arith, mul-le-mul {n₂ = 9} {m₂ = 207} (le-pred-of-lt (weight-small (i + skip) (omega arith))) (le-pred-of-lt byte))
+
+  pub product-fits : Fits w64 (getD weights (i + skip) 0 * v)
+  product-fits = record { fits = omega (arith, product-small) }
+
+  pub sum-fits : sum ≤ 2560 * i → Fits w64 (sum + getD weights (i + skip) 0 * v)
+  sum-fits h = record { fits = omega (arith, product-small) }
+
+  pub sum-small : sum ≤ 2560 * i → sum + getD weights (i + skip) 0 * v ≤ 2560 * (i + 1)
+  sum-small h = omega (arith, product-small)
 
 weighted-nil : (ws : List ℕ) → weighted ws [] ≡ 0
 unfolding weighted

@@ -53,6 +53,13 @@ module _ (p : Parts) (can : canWrite p ≡ true) where
   pub before-is : digitsBefore (p .last) ≡ cond (eqb (p .last) 90) 8 9
   before-is = eight-or-nine (p .last) (λ e. omega (arith, can-known))
 
+  before-few : digitsBefore (p .last) ≤ 9
+  before-few = rw before-is (at-most (eqb (p .last) 90))
+    where
+      at-most : (t : Bool) → cond t 8 9 ≤ 9
+      at-most true = omega arith
+      at-most false = omega arith
+
   pub body-long : length (bothNumbers p) ≡ digitsBefore (p .last)
   body-long = simp (length-append, length-digits)
 
@@ -65,12 +72,17 @@ module _ (p : Parts) (can : canWrite p ≡ true) where
       rw (ten-is (postingDigits (p .last)))
       (digits-beside (consignorDigits (p .last)) (p .consignor) (postingDigits (p .last)) (p .posting) (rw (ten-is (postingDigits (p .last))) at posting-fits))
 
-  module _ (h : Shape) (eh : Looked h (p .last)) (y : ℕ) (ey : y ≡ 10 ^ h .posting) where
-    pub number-small : p .consignor * y + p .posting < 1000000000
-    number-small =
-        let n : ℕ = digitsBefore (p .last) in
-        let few : n ≤ 9 = rw (eh .0) at (eh .2) in
-        rw (ey, eh .0) (omega (arith, number-below, ten-is n, ten-grows n 9 few))
+module _ (p : Parts) (k y : ℕ) (pre : (canWrite p ≡ true) × (k ≡ postingDigits (p .last)) × (k < 10)) (ey : y ≡ 10 ^ k) where
+  pub number-small : p .consignor * y + p .posting < 1000000000
+  number-small =
+      let n : ℕ = digitsBefore (p .last) in
+      rw (ey, pre .1) (omega (arith, number-below p (pre .0), ten-is n, ten-grows n 9 (before-few p (pre .0))))
+
+  pub number-is : p .consignor * y + p .posting ≡ p .consignor * 10 ^ k + p .posting
+  number-is = rw ey
+
+pub posting-of : (h : Shape) (l : ℕ) → Looked h l → h .posting ≡ postingDigits l
+posting-of h l eh = rw (eh .0)
 
 -- ---- the five stores
 stored : (cz : Bool) (s d : List ℕ) (a b l x n : ℕ) → length s ≡ 13 → n ≡ cond cz 8 9 → length d ≡ n
@@ -78,16 +90,16 @@ stored : (cz : Bool) (s d : List ℕ) (a b l x n : ℕ) → length s ≡ 13 → 
 stored true s d a b l x n p e q = rw (e, spelled 13 s p, spelled 8 d (q ∙ e))
 stored false s d a b l x n p e q = rw (e, spelled 13 s p, spelled 9 d (q ∙ e))
 
-module _ (s t : List ℕ) (p : Parts) (n y x sum : ℕ) (long : length s ≡ 13) (can : canWrite p ≡ true) (en : n ≡ digitsBefore (p .last)) (ey : y ≡ 10 ^ postingDigits (p .last)) where
-  filled-at : t ≡ digits (length (take (n + 2 - 2) (drop 2 s))) (p .consignor * y + p .posting)
+module _ (s t : List ℕ) (p : Parts) (n m x sum : ℕ) (long : length s ≡ 13) (can : canWrite p ≡ true) (en : n ≡ digitsBefore (p .last)) (em : m ≡ p .consignor * 10 ^ postingDigits (p .last) + p .posting) where
+  filled-at : t ≡ digits (length (take (n + 2 - 2) (drop 2 s))) m
       → sum ≡ weighted (weightsFor n) (take (n + 2 - 2) (drop 2 (putMid 2 (n + 2 - 2) s t)))
       → x ≡ checkDigit (sum % 11)
       → set (set (set (set (set (putMid 2 (n + 2 - 2) s t) 0 (p .first)) 1 (p .second)) 11 67) (n + 2) (48 + x)) 12 (p .last) ≡ written p
   unfolding written
   filled-at et es ex =
       let nine : n ≡ cond (eqb (p .last) 90) 8 9 = en ∙ before-is p can in
-      let few : n + 2 ≤ length s = omega (arith, bounded (eqb (p .last) 90)) in
-      let body : t ≡ bothNumbers p = et ∙ rw (mid-len 2 (n + 2) s few, ey, back n, en) (body-digits p can) in
+      let few : n + 2 ≤ length s = omega (arith, before-few p can) in
+      let body : t ≡ bothNumbers p = et ∙ rw (mid-len 2 (n + 2) s few, em, back n, en) (body-digits p can) in
       let there : take (n + 2 - 2) (drop 2 (putMid 2 (n + 2 - 2) s t)) ≡ t =
       put-there 2 (n + 2) s t (omega arith) few (ap length body ∙ body-long p can ∙ sym en ∙ sym (back n)) in
       let digit : 48 + x ≡ checkByte p = ap (λ (z : ℕ). 48 + z) (ex ∙ rw (es, there, body, en)) in
@@ -96,14 +108,10 @@ module _ (s t : List ℕ) (p : Parts) (n y x sum : ℕ) (long : length s ≡ 13)
       back : (m : ℕ) → m + 2 - 2 ≡ m
       back m = omega arith
 
-      bounded : (t : Bool) → cond t 8 9 ≤ 9
-      bounded true = omega arith
-      bounded false = omega arith
-
-module _ (s t : List ℕ) (p : Parts) (h : Shape) (y x sum : ℕ) (pre : (length s ≡ 13) × (canWrite p ≡ true)) (eh : Looked h (p .last)) (ey : y ≡ 10 ^ h .posting) where
-  pub fill-is : t ≡ digits (length (take (h .consignor + h .posting + 2 - 2) (drop 2 s))) (p .consignor * y + p .posting)
+module _ (s t : List ℕ) (p : Parts) (h : Shape) (m x sum : ℕ) (pre : (length s ≡ 13) × (canWrite p ≡ true)) (eh : Looked h (p .last)) (em : m ≡ p .consignor * 10 ^ h .posting + p .posting) where
+  pub fill-is : t ≡ digits (length (take (h .consignor + h .posting + 2 - 2) (drop 2 s))) m
       → sum ≡ weighted (drop (9 - (h .consignor + h .posting)) weights) (take (h .consignor + h .posting + 2 - 2) (drop 2 (putMid 2 (h .consignor + h .posting + 2 - 2) s t)))
       → x ≡ checkDigit (sum % 11)
       → set (set (set (set (set (putMid 2 (h .consignor + h .posting + 2 - 2) s t) 0 (p .first)) 1 (p .second)) 11 67) (h .consignor + h .posting + 2) (48 + x)) 12 (p .last)
       ≡ written p
-  fill-is et es ex = filled-at s t p (h .consignor + h .posting) y x sum (pre .0) (pre .1) (rw (eh .0)) (ey ∙ rw (eh .0)) et es ex
+  fill-is et es ex = filled-at s t p (h .consignor + h .posting) m x sum (pre .0) (pre .1) (rw (eh .0)) (em ∙ rw (eh .0)) et es ex

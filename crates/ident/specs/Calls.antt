@@ -7,7 +7,7 @@ use mathlib.Core.Path.{_≡_}
 use lib.ListN.{length, getD}
 use lib.Dec.{ltb, eqb}
 use Rattle.text.specs.declared.Answer.{Answer}
-use Rattle.text.specs.Answers.{answer, accepted}
+use Rattle.text.specs.Answers.{answer, accepted, wrongLength}
 use Rattle.text.specs.Lists.{sameBytes}
 use Rattle.text.specs.Numbers.{digits}
 use Rattle.ident.specs.declared.Parts.{Parts}
@@ -62,7 +62,7 @@ canWrite p =
 
 -- the lent part `before` and `after` the call that answers r
 pub record Written (before : List ℕ) (p : Parts) (r : Answer) (after : List ℕ) : Type 0 where
-  pub answers : r ≡ cond (eqb (length before) 13) (cond (canWrite p) accepted notRight) (answer 236 0)
+  pub answers : r ≡ cond (eqb (length before) 13) (cond (canWrite p) accepted notRight) wrongLength
   pub bytes : after ≡ cond (eqb (length before) 13 && canWrite p) (written p) before
 
 -- ---- same

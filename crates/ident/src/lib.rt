@@ -1,9 +1,9 @@
 // The identifier of 13 bytes: whether it is right, its parts, writing one, comparing two.
 ghost use mathlib.Core.Path.{_≡_};
 ghost use mathlib.Core.Bool.{true};
-ghost use Prim.Native.Nat.{_+_, _^_, _≤_, _<_};
+ghost use Prim.Native.Nat.{_+_, _*_, _^_, _≤_, _<_};
 ghost use lib.ListN.{length, drop};
-ghost use Rattle.ident.specs.Identifier.{shapeOf, rightPrefix, weights, weighted, checkDigit, passesAt, endsRight, rightId};
+ghost use Rattle.ident.specs.Identifier.{shapeOf, postingDigits, rightPrefix, weights, weighted, checkDigit, passesAt, endsRight, rightId};
 ghost use Rattle.ident.specs.Calls.{partsOf, canWrite, written, Checked, Read, Written, Compared};
 use text::ACCEPTED;
 use text::Answer;
@@ -217,6 +217,14 @@ fn can_write(p: Parts) -> bool
     right_prefix(p.first, p.second) & (0 < shape.posting) & fits & numbered
 }
 
+// Consignor and posting number side by side, as one number. The posting number has k digits.
+fn side_by_side(p: Parts, k: usize) -> u64
+    requires { ⌜ (canWrite p ≡ true) × (k ≡ postingDigits (p .last)) × (k < 10) ⌝ }
+    ensures { λ r. ⌜ r ≡ p .consignor * 10 ^ k + p .posting ⌝ }
+{
+    p.consignor * power(k) + p.posting
+}
+
 fn fill(id: &mut [u8], p: Parts)
     requires { ⌜ (length (now id) ≡ 13) × (canWrite p ≡ true) ⌝ }
     ensures { λ _. ⌜ now (id .exit) ≡ written p ⌝ }
@@ -224,7 +232,7 @@ fn fill(id: &mut [u8], p: Parts)
     let shape = shape_of(p.last);
     let n = shape.consignor + shape.posting;
     let e = n + 2;
-    let number = p.consignor * power(shape.posting) + p.posting;
+    let number = side_by_side(p, shape.posting);
     text::put_digits(&mut id[2..e], number);
     let digit = check_digit(weighted_sum(&id[2..e], 9 - n) % 11);
     id[0] = p.first;

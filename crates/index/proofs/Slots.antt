@@ -16,7 +16,7 @@ use Rattle.text.specs.Lists.{sameBytes}
 use Rattle.text.proofs.Lists.{same-exactly, same-refl}
 use Rattle.text.proofs.Booleans.{clash}
 use Rattle.index.specs.Index.{keyAt, hasKey, seek, named, namedAt, hashOf, ends, next, slotFrom, slotOf, found, noting}
-use Rattle.index.specs.Laws.{Has, FoundHas, kept, KeptFinds, taken, Indexed, IndexedNone, IndexedMore}
+use Rattle.index.specs.Laws.{Has, FoundHas, noted, NotedFinds, taken, Indexed, IndexedNone, IndexedMore}
 
 -- ---- what `seek` says
 pub seek-down : (file : List ℕ) (from : ℕ) (key : List ℕ) (n : ℕ) → seek file from key (n + 1) ≡ cond (sameBytes (keyAt file from n) key) (suc n) (seek file from key n)
@@ -397,7 +397,7 @@ indexed-none file from m =
       finds = λ key. rw (none-at m (slotOf (replicate m 0) file from key)) (named-zero file from);
     }
 
--- ---- a table kept from the first record on
+-- ---- a table noted from the first record on
 pub length-noting : (table file : List ℕ) (from n : ℕ) → length (noting table file from n) ≡ length table
 unfolding noting
 length-noting table file from n = go (hasKey file from n && ltb n 65535)
@@ -406,18 +406,18 @@ length-noting table file from n = go (hasKey file from n && ltb n 65535)
     go true = length-set table (slotOf table file from (keyAt file from n)) (n + 1)
     go false = refl
 
-length-kept : (file : List ℕ) (from m n : ℕ) → length (kept file from m n) ≡ m
-unfolding kept
-length-kept file from m zero = length-replicate {A = ℕ} m 0
-length-kept file from m (suc n) = length-noting (kept file from m n) file from n ∙ length-kept file from m n
+length-noted : (file : List ℕ) (from m n : ℕ) → length (noted file from m n) ≡ m
+unfolding noted
+length-noted file from m zero = length-replicate {A = ℕ} m 0
+length-noted file from m (suc n) = length-noting (noted file from m n) file from n ∙ length-noted file from m n
 
-indexed-kept : (file : List ℕ) (from m n : ℕ) → n < m → n ≤ 65535 → ((i : ℕ) → i < n → hasKey file from i ≡ true) → Indexed file from n (kept file from m n)
-unfolding kept
-indexed-kept file from m zero l f each = indexed-none file from m
-indexed-kept file from m (suc n) l f each =
-    let before = indexed-kept file from m n (omega arith) (omega arith) (λ i h. each i (omega arith)) in
-    let more = indexed-more file from n (kept file from m n) before (omega (arith, length-kept file from m n)) (omega arith) (each n (omega arith)) in
-    subst (λ (k : ℕ). Indexed file from k (noting (kept file from m n) file from n)) (add-one n) more
+indexed-noted : (file : List ℕ) (from m n : ℕ) → n < m → n ≤ 65535 → ((i : ℕ) → i < n → hasKey file from i ≡ true) → Indexed file from n (noted file from m n)
+unfolding noted
+indexed-noted file from m zero l f each = indexed-none file from m
+indexed-noted file from m (suc n) l f each =
+    let before = indexed-noted file from m n (omega arith) (omega arith) (λ i h. each i (omega arith)) in
+    let more = indexed-more file from n (noted file from m n) before (omega (arith, length-noted file from m n)) (omega arith) (each n (omega arith)) in
+    subst (λ (k : ℕ). Indexed file from k (noting (noted file from m n) file from n)) (add-one n) more
 
-pub kept-finds : KeptFinds
-kept-finds file from m n l f each key = indexed-kept file from m n l f each .finds key
+pub noted-finds : NotedFinds
+noted-finds file from m n l f each key = indexed-noted file from m n l f each .finds key

@@ -124,6 +124,12 @@ module _ (table file : List ℕ) (from : ℕ) (key : List ℕ) (s : ℕ) (es : (
   find-there t et = et .0 ∙ rw (← es .0)
 
 -- ---- put
+pub note-none : (table : List ℕ) (s n : ℕ) → 65535 ≤ n → table ≡ cond (ltb n 65535) (set table s (n + 1)) table
+note-none table s n h = rw (le-ltb n 65535 h)
+
+pub note-set : (table : List ℕ) (s n : ℕ) → n < 65535 → set table s (n + 1) ≡ cond (ltb n 65535) (set table s (n + 1)) table
+note-set table s n h = rw (lt-ltb n 65535 h)
+
 pub put-inside : (file : List ℕ) (from n : ℕ) (b : Bool) → b ≡ hasKey file from n → not b ≡ false → n * 401 + from + 13 ≤ length file
 put-inside file from n b eb good = key-inside file from n (sym eb ∙ not-false b good)
 
@@ -159,19 +165,10 @@ module _ (table file : List ℕ) (from n : ℕ) (b : Bool) (eb : b ≡ hasKey fi
           go true = sym (set-out table (slotOf table file from (keyAt file from n)) (n + 1) (omega (arith, own .0)))
           go false = refl
 
-      module _ (t : ℕ) (et : (t ≡ named file from (getD table s 0)) × (t < 65536)) where
-        pub put-large : 65535 ≤ n → Put table file from n t table
-        unfolding noting
-        put-large h =
-            record {
-              before = find-there table file from (keyAt file from n) s own t et;
-              notes = rw (has, le-ltb n 65535 h);
-            }
-
-        pub put-noted : n < 65535 → Put table file from n t (set table s (n + 1))
-        unfolding noting
-        put-noted h =
-            record {
-              before = find-there table file from (keyAt file from n) s own t et;
-              notes = rw (has, lt-ltb n 65535 h, own .0);
-            }
+      pub put-noted : (w : List ℕ) (t : ℕ) → (t ≡ named file from (getD table s 0)) × (t < 65536) → w ≡ cond (ltb n 65535) (set table s (n + 1)) table → Put table file from n t w
+      unfolding noting
+      put-noted w t et ew =
+          record {
+            before = find-there table file from (keyAt file from n) s own t et;
+            notes = rw (ew, has, own .0);
+          }

@@ -11,7 +11,7 @@ use Rattle.text.specs.Lists.{sameBytes}
 use Rattle.text.specs.Texts.{bytes, allHold}
 use Rattle.text.specs.Words.{lowFirst}
 use Rattle.index.specs.Index.{hasKey, seek, named, hashOf, slotFrom, slotOf, found, noting}
-use Rattle.index.specs.Laws.{kept}
+use Rattle.index.specs.Laws.{noted}
 
 -- a record that has nothing but its key
 unfoldable pub bare : String → List ℕ
@@ -25,15 +25,15 @@ looked table key = found table three 0 (bytes key)
 
 pub examples : List Bool
 examples =
-    eqb (looked (kept three 0 5 2) "RR000000000CZ") 1
-    ∷ eqb (looked (kept three 0 5 3) "RR000000000CZ") 3
-    ∷ eqb (looked (kept three 0 5 3) "RR000000014CZ") 2
-    ∷ eqb (looked (kept three 0 5 3) "RR000000028CZ") 0
-    ∷ eqb (looked (kept three 0 5 3) "RR") 0
+    eqb (looked (noted three 0 5 2) "RR000000000CZ") 1
+    ∷ eqb (looked (noted three 0 5 3) "RR000000000CZ") 3
+    ∷ eqb (looked (noted three 0 5 3) "RR000000014CZ") 2
+    ∷ eqb (looked (noted three 0 5 3) "RR000000028CZ") 0
+    ∷ eqb (looked (noted three 0 5 3) "RR") 0
     ∷ eqb (looked [] "RR000000000CZ") 0
     ∷ eqb (looked (9 ∷ 9 ∷ []) "RR000000000CZ") 0
     ∷ []
 
 pub shown : allHold examples ≡ true
-unfolding examples looked three bare kept noting found slotOf slotFrom hashOf named hasKey seek lowFirst sameBytes bytes allHold
+unfolding examples looked three bare noted noting found slotOf slotFrom hashOf named hasKey seek lowFirst sameBytes bytes allHold
 shown = refl

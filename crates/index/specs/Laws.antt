@@ -18,14 +18,14 @@ abbrev pub FoundHas : Type 0
 FoundHas = (table file : List ℕ) (from : ℕ) (key : List ℕ) (i : ℕ) → found table file from key ≡ suc i → Has file from key i
 
 -- the first n records noted in m slots, one behind the other
-unfoldable pub kept : List ℕ → ℕ → ℕ → ℕ → List ℕ
-kept file from m zero = replicate m 0
-kept file from m (suc n) = noting (kept file from m n) file from n
+unfoldable pub noted : List ℕ → ℕ → ℕ → ℕ → List ℕ
+noted file from m zero = replicate m 0
+noted file from m (suc n) = noting (noted file from m n) file from n
 
 -- whatever key is looked for there, `seek` is found, as long as there are more slots than records
-abbrev pub KeptFinds : Type 0
-KeptFinds = (file : List ℕ) (from m n : ℕ) → n < m → n ≤ 65535 → ((i : ℕ) → i < n → hasKey file from i ≡ true)
-    → (key : List ℕ) → found (kept file from m n) file from key ≡ seek file from key n
+abbrev pub NotedFinds : Type 0
+NotedFinds = (file : List ℕ) (from m n : ℕ) → n < m → n ≤ 65535 → ((i : ℕ) → i < n → hasKey file from i ≡ true)
+    → (key : List ℕ) → found (noted file from m n) file from key ≡ seek file from key n
 
 -- ---- the same one `put` at a time
 -- how many slots are not 0

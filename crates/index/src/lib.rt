@@ -1,8 +1,10 @@
 // An index of a file's records by 13 bytes of each: the place of the last record with a key. A caller lends the table that they are noted in.
-// With more slots than records, and the table 0 at first, `find` misses none: `KeptFinds`.
+// With more slots than records, and the table 0 at first, `find` misses none: `NotedFinds`.
 ghost use mathlib.Core.Path.{_≡_};
-ghost use Prim.Native.Nat.{_≤_, _<_};
-ghost use lib.ListN.{length};
+ghost use mathlib.Core.Bool.{cond};
+ghost use Prim.Native.Nat.{_+_, _≤_, _<_};
+ghost use lib.Dec.{ltb};
+ghost use lib.ListN.{length, set};
 ghost use Rattle.text.specs.Promises.{Gives};
 ghost use Rattle.index.specs.Index.{hasKey, named, hashOf, next, slotOf, found, Put};
 
@@ -98,6 +100,17 @@ pub fn find(table: &[u16], file: &[u8], from: usize, key: &[u8]) -> usize
     named(file, from, table[s])
 }
 
+// Names record n in slot s. No slot names a record from 65,535 on.
+fn note(table: &mut [u16], s: usize, n: usize)
+    requires { ⌜ s < length (now table) ⌝ }
+    ensures { λ _. ⌜ now (table .exit) ≡ cond (ltb n 65535) (set (now (table .entry)) s (n + 1)) (now (table .entry)) ⌝ }
+{
+    if n >= 65535 {
+        return;
+    }
+    table[s] = (n + 1) as u16;
+}
+
 // Notes record n, and gives what `find` would have given for its key before.
 pub fn put(table: &mut [u16], file: &[u8], from: usize, n: usize) -> usize
     ensures { λ r. ⌜ Put (now (table .entry)) (now (file .entry)) from n r (now (table .exit)) ⌝ }
@@ -112,9 +125,6 @@ pub fn put(table: &mut [u16], file: &[u8], from: usize, n: usize) -> usize
         return 0;
     }
     let before = named(file, from, table[s]);
-    if n >= 65535 {
-        return before;
-    }
-    table[s] = (n + 1) as u16;
+    note(table, s, n);
     before
 }

@@ -2,17 +2,19 @@
 -- Assumes nothing.
 use Prim.Native.Nat.{ℕ, zero, suc, _+_, _-_, _≤_, _<_}
 use mathlib.Core.Path.{_≡_, refl, sym, _∙_}
-use mathlib.Core.Bool.{Bool, true, false, _&&_, and-eq-true-iff}
+use mathlib.Core.Bool.{Bool, true, false, _&&_}
 use mathlib.Core.List.{List, [], _∷_}
 use native.Mathlib.Nat.{add-sub-cancel-left}
 use native.Mathlib.Omega.{arith}
-use borrow.Author.Tests.{eq-eqb, ne-eqb, leb-true, eqb-true}
-use lib.Dec.{eqb, leb}
+use borrow.Author.Tests.{eq-eqb, ne-eqb, eqb-true}
+use lib.Dec.{eqb}
 use lib.ListN.{length, getD, take, drop, List·getD-eq-default}
 use Rattle.text.specs.Answers.{answer, accepted}
+use Rattle.text.proofs.Booleans.{both}
 use Rattle.layout.specs.Widths.{cut}
 use Rattle.layout.specs.Layout.{widths, starts, widthOf, isField, fieldOf, fieldAnswer, Field, FieldAnswered}
 use Rattle.layout.proofs.Tiling.{field-within, starts-nth}
+use Rattle.layout.proofs.Fields.{field-range}
 
 -- ---- width
 pub no-width : (n : ℕ) → n < 1 → 0 ≡ widthOf n
@@ -38,9 +40,9 @@ module _ (rec : List ℕ) (n : ℕ) (pre : (length rec ≡ 399) × (1 ≤ n) × 
 module _ (rec : List ℕ) (n : ℕ) (b : Bool) (eb : b ≡ isField n) where
   pub there : (eqb (length rec) 399 && b) ≡ true → (length rec ≡ 399) × (1 ≤ n) × (n ≤ 26)
   there h =
-      let both = and-eq-true-iff (eqb (length rec) 399) b .0 h in
-      let range = and-eq-true-iff (leb 1 n) (leb n 26) .0 (sym eb ∙ both .1) in
-      (eqb-true (length rec) 399 (both .0), leb-true 1 n (range .0), leb-true n 26 (range .1))
+      let tests = both (eqb (length rec) 399) b h in
+      let range = field-range n (sym eb ∙ tests .1) in
+      (eqb-true (length rec) 399 (tests .0), range .0, range .1)
 
   pub the-field : (f : List ℕ) → (eqb (length rec) 399 && b) ≡ true → f ≡ cut widths rec (n - 1) → Field rec n f
   unfolding fieldOf

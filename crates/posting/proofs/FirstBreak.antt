@@ -58,10 +58,10 @@ file-outcome file = go (eqb (length file % 401) 0) refl (leb (recordsIn file) 99
     go true e true f (first k l h r x g) = first-break (eqb-true _ 0 e) (leb-true _ 999 f) k (omega arith) (λ j q. r j (omega arith) q) x g
 
 -- ---- and no other answer has such an outcome
-unbroken-to : (file : List ℕ) → length file % 401 ≡ 0 → recordsIn file ≤ 999 → (k : ℕ) → k ≤ recordsIn file → ((j : ℕ) → j < k → lineAnswer file j .code ≡ 0) → Unbroken file k
-unbroken-to file m l zero h r = unbroken-start file
-unbroken-to file m l (suc k) h r =
-    rw add-one at (file-on file m l k (omega arith) (unbroken-to file m l k (omega arith) (λ j q. r j (omega arith))) (lineAnswer file k) refl (r k (omega arith)))
+unbroken-to : (file : List ℕ) (k : ℕ) → k ≤ recordsIn file → ((j : ℕ) → j < k → lineAnswer file j .code ≡ 0) → Unbroken file k
+unbroken-to file zero h r = unbroken-start file
+unbroken-to file (suc k) h r =
+    rw add-one at (file-on file k (lineAnswer file k) (omega arith) (unbroken-to file k (omega arith) (λ j q. r j (omega arith))) refl (r k (omega arith)))
 
 pub outcome-exactly : (file : List ℕ) (a : FileAnswer) → FileOutcome file a ↔ (a ≡ fileAnswer file)
 outcome-exactly file a = (only, λ e. rw e (file-outcome file))
@@ -69,8 +69,8 @@ outcome-exactly file a = (only, λ e. rw e (file-outcome file))
     only : FileOutcome file a → a ≡ fileAnswer file
     only (no-multiple n e) = file-odd file a n e
     only (too-many m h e) = file-long file a m h e
-    only (first-break m l i h b x e) = file-breaks file m l i h (unbroken-to file m l i (omega arith) b) (lineAnswer file i) refl a x e
-    only (no-break m l b e) = e ∙ file-passes file m l (recordsIn file) _ (omega arith) (omega arith) (unbroken-to file m l (recordsIn file) (omega arith) b) refl
+    only (first-break m l i h b x e) = file-breaks file m l i (lineAnswer file i) a h (unbroken-to file i (omega arith) b) refl x e
+    only (no-break m l b e) = e ∙ file-passes file m l (recordsIn file) _ (omega arith) (omega arith) (unbroken-to file (recordsIn file) (omega arith) b) refl
 
 -- ---- code 0 exactly if all rules are kept
 pub accepted-exactly : (file : List ℕ) → (fileAnswer file .code ≡ 0) ↔ AllRight file

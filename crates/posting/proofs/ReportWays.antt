@@ -1,24 +1,24 @@
 -- The line of seven numbers: each turn of the loops that count it and put it, and each way out of the calls.
 -- Assumes nothing.
-use Prim.Native.Nat.{ℕ, zero, suc, _+_, _-_, _*_, _/_, _≤_, _<_}
+use Prim.Native.Nat.{ℕ, suc, _+_, _-_, _*_, _≤_, _<_}
 use mathlib.Core.Path.{_≡_, refl, sym, ap, _∙_}
-use mathlib.Core.Bool.{Bool, true, false, cond}
+use mathlib.Core.Bool.{true, false}
 use mathlib.Core.List.{List, [], _∷_, _++_, append-assoc}
 use native.Mathlib.Nat.{add-assoc, add-zero}
 use native.Mathlib.Numerals.{add-one}
 use native.Mathlib.Omega.{arith}
-use borrow.Author.Tests.{lt-ltb, le-ltb, le-leb, lt-leb, leb-true}
+use borrow.Author.Tests.{lt-ltb, le-ltb, le-leb, lt-leb}
 use borrow.Rule.Slice.PartMut.{putMid}
-use lib.Dec.{leb, ltb}
+use lib.Dec.{leb}
 use lib.ListN.{length, getD, take, drop, set, length-append, length-take, length-drop, take-append-drop}
 use lib.Seq.{take-at, take-append-seam, drop-at, set-split, drop-drop, length-take-le}
 use Rattle.text.specs.Answers.{answer, accepted}
 use Rattle.text.specs.Lists.{overlay}
-use Rattle.text.specs.Numbers.{digits, places, placesUpTo, decimal}
+use Rattle.text.specs.Numbers.{digits, decimalPlaces, decimalPlacesUpTo, decimal}
 use Rattle.text.specs.Texts.{bytes}
 use Rattle.text.proofs.Lists.{step, ended}
-use Rattle.text.proofs.Numbers.{length-digits}
-use Rattle.fields.proofs.AmountWays.{overlay-put}
+use Rattle.text.proofs.Numbers.{length-digits, digits-put}
+use Rattle.text.proofs.Decimals.{decimal-places-within}
 use Rattle.posting.specs.declared.FileAnswer.{FileAnswer}
 use Rattle.posting.specs.declared.Reported.{Reported}
 use Rattle.posting.specs.File.{totalsOver, breakFrom, fileAnswer, refused}
@@ -35,11 +35,11 @@ line-ended ns i h = rw (ended ns i h)
 
 -- ---- line_length
 module _ (ns : List ℕ) (i c r : ℕ) (known : c + length (line (drop i ns)) ≡ r) where
-  pub count-on : (w : ℕ) → i < length ns → (w ≡ places (getD ns i 0)) × ((1 ≤ w) × (w ≤ 20)) → c + (w + 1) + length (line (drop (i + 1) ns)) ≡ r
+  pub count-on : (w : ℕ) → i < length ns → (w ≡ decimalPlaces (getD ns i 0)) × ((1 ≤ w) × (w ≤ 20)) → c + (w + 1) + length (line (drop (i + 1) ns)) ≡ r
   count-on w h e =
       let n : ℕ = getD ns i 0 in
       let here : length (line (drop i ns)) ≡ w + suc (length (line (drop (i + 1) ns))) =
-      rw (line-step ns i h, length-append (decimal n) (behind (drop (i + 1) ns) ∷ line (drop (i + 1) ns)), length-digits (places n) n, ← e .0) in
+      rw (line-step ns i h, length-append (decimal n) (behind (drop (i + 1) ns) ∷ line (drop (i + 1) ns)), length-digits (decimalPlaces n) n, ← e .0) in
       omega arith
 
   pub count-ends : length ns ≤ i → c ≡ r
@@ -78,11 +78,11 @@ set-behind s p a b h =
     set-split (overlay s a p) e b long ∙ ap (λ (k : ℕ). take e (overlay s a p) ++ b ∷ drop k (overlay s a p)) (sym (add-one e)) ∙ overlay-join s p (b ∷ []) a (omega arith)
 
 -- ---- put_number
-pub number-put : (s t : List ℕ) (a n b w : ℕ) → a + places n < length s → (w ≡ places n) × ((1 ≤ w) × (w ≤ 20))
+pub number-put : (s t : List ℕ) (a n b w : ℕ) → a + decimalPlaces n < length s → (w ≡ decimalPlaces n) × ((1 ≤ w) × (w ≤ 20))
     → t ≡ digits (length (take (a + w - a) (drop a s))) n → set (putMid a (a + w - a) s t) (a + w) b ≡ overlay s a (decimal n ++ b ∷ [])
 number-put s t a n b w room ew e =
-    let long : length (decimal n) ≡ w = length-digits (places n) n ∙ sym (ew .0) in
-    let put : putMid a (a + w - a) s t ≡ overlay s a (decimal n) = overlay-put s t a w n (omega arith) e ∙ rw (ew .0) in
+    let long : length (decimal n) ≡ w = length-digits (decimalPlaces n) n ∙ sym (ew .0) in
+    let put : putMid a (a + w - a) s t ≡ overlay s a (decimal n) = digits-put s t a w n (omega arith) e ∙ rw (ew .0) in
     rw (put, ← long) (set-behind s (decimal n) a b (omega arith))
 
 -- ---- put_line: what the rest will make of the buffer is what the whole line makes of it
@@ -90,23 +90,23 @@ number-put s t a n b w room ew e =
 abbrev item : List ℕ → ℕ → List ℕ
 item ns i = decimal (getD ns i 0) ++ behind (drop (i + 1) ns) ∷ []
 
-length-item : (ns : List ℕ) (i : ℕ) → length (item ns i) ≡ places (getD ns i 0) + 1
+length-item : (ns : List ℕ) (i : ℕ) → length (item ns i) ≡ decimalPlaces (getD ns i 0) + 1
 length-item ns i =
     let n : ℕ = getD ns i 0 in
-    length-append (decimal n) (behind (drop (i + 1) ns) ∷ []) ∙ rw (length-digits (places n) n)
+    length-append (decimal n) (behind (drop (i + 1) ns) ∷ []) ∙ rw (length-digits (decimalPlaces n) n)
 
 module _ (ns : List ℕ) (i a : ℕ) (o : List ℕ) (h : i < length ns) (room : a + length (line (drop i ns)) ≤ length o) where
   joined : line (drop i ns) ≡ item ns i ++ line (drop (i + 1) ns)
   joined = line-step ns i h ∙ sym (append-assoc (decimal (getD ns i 0)) (behind (drop (i + 1) ns) ∷ []) (line (drop (i + 1) ns)))
 
-  split-room : a + (places (getD ns i 0) + 1 + length (line (drop (i + 1) ns))) ≤ length o
+  split-room : a + (decimalPlaces (getD ns i 0) + 1 + length (line (drop (i + 1) ns))) ≤ length o
   split-room = rw (joined, length-append (item ns i) (line (drop (i + 1) ns)), length-item ns i) at room
 
-  pub room-number : a + places (getD ns i 0) < length o
+  pub room-number : a + decimalPlaces (getD ns i 0) < length o
   room-number = omega (arith, split-room)
 
   module _ (o′ : List ℕ) (a′ b : ℕ) (eb : b ≡ behind (drop (i + 1) ns))
-      (put : (o′ ≡ overlay o a (decimal (getD ns i 0) ++ b ∷ [])) × (a′ ≡ a + places (getD ns i 0) + 1)) where
+      (put : (o′ ≡ overlay o a (decimal (getD ns i 0) ++ b ∷ [])) × (a′ ≡ a + decimalPlaces (getD ns i 0) + 1)) where
     now-is : o′ ≡ overlay o a (item ns i)
     now-is = put .0 ∙ rw eb
 
@@ -143,20 +143,11 @@ pub report-of : (a a′ : FileAnswer) (s s′ : List ℕ) (r : Reported) → a�
 report-of a a′ s s′ r e p = rw e at p
 
 -- ---- the line fits
-places-within : (k n : ℕ) → placesUpTo k n ≤ suc k
-unfolding placesUpTo
-places-within zero n = omega arith
-places-within (suc k) n = go (ltb n 10) (places-within k (n / 10))
-  where
-    go : (t : Bool) → placesUpTo k (n / 10) ≤ suc k → cond t 1 (suc (placesUpTo k (n / 10))) ≤ suc (suc k)
-    go true h = omega arith
-    go false h = omega arith
-
 line-at-most : (ns : List ℕ) → length (line ns) ≤ 21 * length ns
 unfolding line
 line-at-most [] = omega arith
 line-at-most (n ∷ ns) =
-    omega (arith, length-append (decimal n) (behind ns ∷ line ns), length-digits (places n) n, places-within 19 n, line-at-most ns)
+    omega (arith, length-append (decimal n) (behind ns ∷ line ns), length-digits (decimalPlaces n) n, decimal-places-within 19 n, line-at-most ns)
 
 pub report-fits : (a : FileAnswer) → length (reportOf a) ≤ longestLine
 report-fits a = line-at-most (numbersOf a)
@@ -186,13 +177,13 @@ input-taken input r h e = e ∙ rw (le-ltb 64160 (length input) h)
 
 -- ---- the whole outputs that the paper gives
 pub no-input : reportOf (inputAnswer []) ≡ bytes "0 0 0 0 0 0 0" ++ 10 ∷ []
-unfolding inputAnswer fileAnswer breakFrom totalsOver line digits placesUpTo bytes
+unfolding inputAnswer fileAnswer breakFrom totalsOver line digits decimalPlacesUpTo bytes
 no-input = refl
 
 pub one-byte : reportOf (inputAnswer (65 ∷ [])) ≡ bytes "211 0 0 0 0 0 0" ++ 10 ∷ []
-unfolding inputAnswer fileAnswer line digits placesUpTo bytes
+unfolding inputAnswer fileAnswer line digits decimalPlacesUpTo bytes
 one-byte = refl
 
 pub long-input : (input : List ℕ) → 64160 < length input → reportOf (inputAnswer input) ≡ bytes "213 0 0 0 0 0 0" ++ 10 ∷ []
-unfolding line digits placesUpTo bytes
+unfolding line digits decimalPlacesUpTo bytes
 long-input input h = rw (← input-long input (refused 213 0 0) h refl)

@@ -8,7 +8,7 @@ use native.Mathlib.Nat.{add-zero, add-sub-cancel-left, sub-zero}
 use native.Mathlib.Numerals.{add-one}
 use native.Mathlib.Omega.{arith}
 use borrow.Author.Tests.{eq-eqb, ne-eqb, le-leb, lt-leb, not-true, not-false}
-use lib.Dec.{eqb, leb}
+use lib.Dec.{eqb}
 use lib.ListN.{length, getD, take, drop}
 use Rattle.text.specs.declared.Answer.{Answer}
 use Rattle.text.specs.Answers.{answer, accepted, orElse}
@@ -17,9 +17,10 @@ use Rattle.record.specs.Rules.{recordAnswer}
 use Rattle.posting.specs.declared.FileAnswer.{FileAnswer}
 use Rattle.posting.specs.declared.Totals.{Totals}
 use Rattle.index.specs.Index.{keyAt, seek, Put}
+use Rattle.index.specs.Laws.{Indexed}
 use Rattle.index.proofs.Keys.{key-of-record}
 use Rattle.index.proofs.Slots.{indexed-more, length-noting}
-use Rattle.posting.specs.Slots.{RoomFor, NowNoted}
+use Rattle.posting.specs.Slots.{RoomFor, NowNoted, LineAnswered, ToCheck}
 use Rattle.posting.specs.File.{recordAt, idAt, lineEnds, repeats, lineAnswer, noTotals, withRecord, totalsOver, refused, passed, lineOr, breakFrom, recordsIn, fileAnswer}
 
 pub refused-is : (c n p : ℕ) (t : Totals) → t ≡ noTotals → record { code = c; number = n; place = p; totals = t } ≡ refused c n p
@@ -90,38 +91,60 @@ abbrev pub goodFor : List ℕ → FileAnswer
 goodFor file = passed (totalsOver file (recordsIn file))
 
 -- what the records from i on give is what all give
-abbrev pub Unbroken : List ℕ → ℕ → Type 0
-Unbroken file i = breakFrom file (goodFor file) (length file / 401 - i) i ≡ breakFrom file (goodFor file) (length file / 401) 0
+pub record Unbroken (file : List ℕ) (i : ℕ) : Type 0 where
+  pub same : breakFrom file (goodFor file) (length file / 401 - i) i ≡ breakFrom file (goodFor file) (length file / 401) 0
 
 pub unbroken-start : (file : List ℕ) → Unbroken file 0
-unbroken-start file = rw (sub-zero (length file / 401))
+unbroken-start file = record { same = rw (sub-zero (length file / 401)) }
+
+step-on : (file : List ℕ) (i : ℕ) → i < length file / 401
+    → breakFrom file (goodFor file) (length file / 401 - i) i ≡ lineOr file i (breakFrom file (goodFor file) (length file / 401 - (i + 1)) (i + 1))
+unfolding breakFrom
+step-on file i h = let e : length file / 401 - i ≡ suc (length file / 401 - (i + 1)) = omega arith in rw e
+
+pub file-on : (file : List ℕ) (i : ℕ) (a : Answer) → i < length file / 401 → Unbroken file i → a ≡ lineAnswer file i → a .code ≡ 0 → Unbroken file (i + 1)
+file-on file i a h known ea z = record { same = rw (step-on file i h, ← ea, eq-eqb (a .code) 0 z) at (known .same) }
 
 module _ (file : List ℕ) (m : length file % 401 ≡ 0) (l : length file / 401 ≤ 999) where
   whole : breakFrom file (goodFor file) (length file / 401) 0 ≡ fileAnswer file
   unfolding fileAnswer
   whole = rw (eq-eqb (length file % 401) 0 m, le-leb (length file / 401) 999 l)
 
-  module _ (i : ℕ) (h : i < length file / 401) (known : Unbroken file i) (a : Answer) (ea : a ≡ lineAnswer file i) where
-    step-on : breakFrom file (goodFor file) (length file / 401 - i) i ≡ lineOr file i (breakFrom file (goodFor file) (length file / 401 - (i + 1)) (i + 1))
-    unfolding breakFrom
-    step-on = let e : length file / 401 - i ≡ suc (length file / 401 - (i + 1)) = omega arith in rw e
-
-    pub file-breaks : (r : FileAnswer) → (a .code ≡ 0 → ⊥) → r ≡ refused (a .code) (i + 1) (a .place) → r ≡ fileAnswer file
-    file-breaks r n e = e ∙ (rw (step-on, ← ea, ne-eqb (a .code) 0 n) at known) ∙ whole
-
-    pub file-on : a .code ≡ 0 → Unbroken file (i + 1)
-    file-on z = rw (step-on, ← ea, eq-eqb (a .code) 0 z) at known
+  pub file-breaks : (i : ℕ) (a : Answer) (r : FileAnswer) → i < length file / 401 → Unbroken file i → a ≡ lineAnswer file i → (a .code ≡ 0 → ⊥)
+      → r ≡ refused (a .code) (i + 1) (a .place) → r ≡ fileAnswer file
+  file-breaks i a r h known ea n e = e ∙ (rw (step-on file i h, ← ea, ne-eqb (a .code) 0 n) at (known .same)) ∙ whole
 
   pub file-passes : (i : ℕ) (t : Totals) → length file / 401 ≤ i → i ≤ length file / 401 → Unbroken file i → t ≡ totalsOver file i → passed t ≡ fileAnswer file
   unfolding breakFrom
   file-passes i t h k known et =
       let e : i ≡ length file / 401 = omega arith in
       let none : length file / 401 - i ≡ 0 = omega arith in
-      rw (et, e) ((rw none at known) ∙ whole)
+      rw (et, e) ((rw none at (known .same)) ∙ whole)
 
-pub totals-on : (file : List ℕ) (i : ℕ) (t t′ : Totals) → t ≡ totalsOver file i → t′ ≡ withRecord t (take (i * 401 + 399 - i * 401) (drop (i * 401) file)) → t′ ≡ totalsOver file (i + 1)
+-- the records before i are accepted, and noted in the lent table
+pub record SoFar (file : List ℕ) (i : ℕ) (table₀ table : List ℕ) : Type 0 where
+  pub unbroken : Unbroken file i
+  pub noted : Indexed file 0 i table
+  pub slots : length table ≡ length table₀
+
+pub so-far-none : (file table : List ℕ) → ToCheck file table → SoFar file 0 table table
+so-far-none file table known = record { unbroken = unbroken-start file; noted = known .none; slots = refl }
+
+pub so-far-on : (file : List ℕ) (i : ℕ) (table₀ table after : List ℕ) (a : Answer) → SoFar file i table₀ table → LineAnswered file i table after a → a .code ≡ 0 → i < length file / 401
+    → SoFar file (i + 1) table₀ after
+so-far-on file i table₀ table after a known answered z h =
+    record {
+      unbroken = file-on file i a h (known .unbroken) (answered .answers) z;
+      noted = answered .notes z .noted;
+      slots = answered .notes z .long ∙ known .slots;
+    }
+
+pub record-with : (file : List ℕ) (i : ℕ) (t r : Totals) → r ≡ withRecord t (take (i * 401 + 399 - i * 401) (drop (i * 401) file)) → r ≡ withRecord t (recordAt file i)
+record-with file i t r e = e ∙ rw (from-start file i 399)
+
+pub totals-on : (file : List ℕ) (i : ℕ) (t t′ : Totals) → t ≡ totalsOver file i → t′ ≡ withRecord t (recordAt file i) → t′ ≡ totalsOver file (i + 1)
 unfolding totalsOver
-totals-on file i t t′ e e′ = e′ ∙ rw (from-start file i 399, e, add-one i)
+totals-on file i t t′ e e′ = e′ ∙ rw (e, add-one i)
 
 pub totals-start : (file : List ℕ) (t : Totals) → t ≡ noTotals → t ≡ totalsOver file 0
 unfolding totalsOver

@@ -18,14 +18,14 @@ use Rattle.fields.specs.Amounts.{isMoney}
 use Rattle.fields.specs.Services.{codesFrom, hasCode, withCode, added, readServices}
 use Rattle.fields.specs.Examples.{inField}
 use Rattle.record.specs.Rules.{askedOf, givenOf, travelOf, table, recordAnswer}
-use Rattle.record.specs.Examples.{laidOut, recordOf, parcel, cashOnDelivery, cancelled}
+use Rattle.record.specs.Examples.{laidOut, recordOf, parcel, cashOnDelivery, cancelledParcel}
 use Rattle.posting.specs.File.{repeats, lineAnswer, totals, brought, totalsOver, passed, breakFrom, fileAnswer}
 use Rattle.posting.specs.Records.{linesOf}
 
 -- both have ten crowns on delivery and twenty as the price specified; the cancelled one is only counted
 unfoldable pub twoRecords : List ℕ
-twoRecords = linesOf (cashOnDelivery ∷ cancelled ∷ [])
+twoRecords = linesOf (cashOnDelivery ∷ cancelledParcel ∷ [])
 
 pub shown : fileAnswer twoRecords ≡ passed (totals 1 1 1000 2000)
-unfolding bytes every run numberAfter sameBytes shapeOf weighted endsRight rightId partsOf fieldOf framed daysIn readDate readTime filled contains isHost isMail isMoney codesFrom hasCode withCode added readServices askedOf givenOf travelOf table recordAnswer inField laidOut recordOf parcel cashOnDelivery cancelled orElse repeats lineAnswer brought totalsOver breakFrom fileAnswer twoRecords
+unfolding bytes every run numberAfter sameBytes shapeOf weighted endsRight rightId partsOf fieldOf framed daysIn readDate readTime filled contains isHost isMail isMoney codesFrom hasCode withCode added readServices askedOf givenOf travelOf table recordAnswer inField laidOut recordOf parcel cashOnDelivery cancelledParcel orElse repeats lineAnswer brought totalsOver breakFrom fileAnswer twoRecords
 shown = refl

@@ -6,7 +6,7 @@ use mathlib.Core.Path.{_≡_}
 use mathlib.Core.List.{List, [], _∷_, _++_}
 use lib.ListN.{length, take}
 use lib.Dec.{leb, ltb}
-use Rattle.text.specs.Answers.{answer, accepted}
+use Rattle.text.specs.Answers.{answer, accepted, wrongLength}
 use Rattle.text.specs.Lists.{overlay}
 use Rattle.text.specs.Numbers.{decimal}
 use Rattle.posting.specs.declared.FileAnswer.{FileAnswer}
@@ -33,7 +33,7 @@ reportOf a = line (numbersOf a)
 
 -- the line in front of a lent buffer and its length; 236, place 0, exactly if the buffer is shorter than the line, and then it stays
 pub record Report (a : FileAnswer) (before : List ℕ) (r : Reported) (after : List ℕ) : Type 0 where
-  pub answers : r .answer ≡ cond (leb (length (reportOf a)) (length before)) accepted (answer 236 0)
+  pub answers : r .answer ≡ cond (leb (length (reportOf a)) (length before)) accepted wrongLength
   pub counts : r .length ≡ cond (leb (length (reportOf a)) (length before)) (length (reportOf a)) 0
   pub bytes : after ≡ cond (leb (length (reportOf a)) (length before)) (overlay before 0 (reportOf a)) before
 

@@ -6,11 +6,11 @@ ghost use mathlib.Core.List.{_∷_, _++_, []};
 ghost use lib.ListN.{length, drop};
 ghost use Rattle.text.specs.Promises.{Gives, GivesWithin};
 ghost use Rattle.text.specs.Lists.{overlay};
-ghost use Rattle.text.specs.Numbers.{places, decimal};
-ghost use Rattle.posting.specs.File.{repeats, lineAnswer, noTotals, amountOf, brought, withRecord, refused, fileAnswer};
+ghost use Rattle.text.specs.Numbers.{decimalPlaces, decimal};
+ghost use Rattle.posting.specs.File.{recordAt, repeats, noTotals, amountOf, brought, withRecord, refused, fileAnswer};
 ghost use Rattle.posting.specs.Calls.{fits, sumOfTotals, totalOr};
 ghost use Rattle.posting.specs.Bounds.{Small};
-ghost use Rattle.posting.specs.Slots.{RoomFor, NowNoted, ToCheck};
+ghost use Rattle.posting.specs.Slots.{RoomFor, NowNoted, LineAnswered, ToCheck};
 ghost use Rattle.posting.specs.Report.{numbersOf, behind, line, Report, inputAnswer};
 use fields::Hellers;
 use fields::MoneyReading;
@@ -92,7 +92,7 @@ pub const TWICE: Answer = Answer { code: 2, place: 1 };
 // What record i breaks, its line end first.
 fn line_answer(file: &[u8], i: usize, table: &mut [u16]) -> Answer
     requires { ⌜ (i < 1000) × (i * 401 + 401 ≤ length (now file)) × RoomFor (now file) i (now table) ⌝ }
-    ensures { λ r. ⌜ (r ≡ lineAnswer (now (file .entry)) i) × (r .code ≡ 0 → NowNoted (now (file .entry)) i (now (table .entry)) (now (table .exit))) ⌝ }
+    ensures { λ r. ⌜ LineAnswered (now (file .entry)) i (now (table .entry)) (now (table .exit)) r ⌝ }
 {
     let at = i * 401;
     let e = at + 399;
@@ -198,6 +198,15 @@ fn with_record(t: Totals, rec: &[u8]) -> Totals
     t.plus(brought(rec)).total_or(t)
 }
 
+// The totals with record i of a file more.
+fn with_record_at(t: Totals, file: &[u8], i: usize) -> Totals
+    requires { ⌜ Small t × (i * 401 + 401 ≤ length (now file)) ⌝ }
+    ensures { λ r. ⌜ r ≡ withRecord t (recordAt (now (file .entry)) i) ⌝ }
+{
+    let start = i * 401;
+    with_record(t, &file[start..start + 399])
+}
+
 // The answer to whole records. The lent table has none of them yet, and more slots than there are records.
 fn checked(file: &[u8], table: &mut [u16]) -> FileAnswer
     requires { ⌜ ToCheck (now file) (now table) ⌝ }
@@ -211,8 +220,7 @@ fn checked(file: &[u8], table: &mut [u16]) -> FileAnswer
         if a.code != 0 {
             return refused(a.code, i as u32 + 1, a.place);
         }
-        let at = i * 401;
-        totals = with_record(totals, &file[at..at + 399]);
+        totals = with_record_at(totals, file, i);
         i += 1;
     }
     FileAnswer {
@@ -275,7 +283,7 @@ fn line_length(numbers: &[u64]) -> usize
     let mut count: usize = 0;
     let mut i = 0;
     while i < numbers.len() {
-        count += text::places(numbers[i]) + 1;
+        count += text::decimal_places(numbers[i]) + 1;
         i += 1;
     }
     count
@@ -291,10 +299,10 @@ fn behind(numbers: &[u64], i: usize) -> u8
 
 // Puts n in decimal from place `at` on, and a byte behind it; gives the place behind that.
 fn put_number(out: &mut [u8], at: usize, n: u64, b: u8) -> usize
-    requires { ⌜ at + places n < length (now out) ⌝ }
-    ensures { λ r. ⌜ (now (out .exit) ≡ overlay (now (out .entry)) at (decimal n ++ b ∷ [])) × (r ≡ at + places n + 1) ⌝ }
+    requires { ⌜ at + decimalPlaces n < length (now out) ⌝ }
+    ensures { λ r. ⌜ (now (out .exit) ≡ overlay (now (out .entry)) at (decimal n ++ b ∷ [])) × (r ≡ at + decimalPlaces n + 1) ⌝ }
 {
-    let w = text::places(n);
+    let w = text::decimal_places(n);
     let e = at + w;
     text::put_digits(&mut out[at..e], n);
     out[e] = b;

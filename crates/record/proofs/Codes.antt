@@ -7,22 +7,19 @@ use mathlib.Core.List.{List, [], _∷_, _++_, map}
 use borrow.Author.Tests.{eq-eqb}
 use lib.Dec.{eqb}
 use Rattle.text.proofs.Booleans.{clash}
-use Rattle.record.specs.Table.{Rule}
+use Rattle.record.specs.Table.{Rule, codeOf}
 use Rattle.record.specs.Rules.{table}
 use Rattle.record.specs.Codes.{tableCodes, lacks}
 
 -- ---- the paper's table: its codes, in its order
-abbrev pub codeOf : Rule → ℕ
-codeOf r = r .code
-
-pub codes-in-order : (posting : Bool) (rec : List ℕ) → map codeOf (table posting rec) ≡ tableCodes
+pub codes-in-order : (toBePosted : Bool) (rec : List ℕ) → map codeOf (table toBePosted rec) ≡ tableCodes
 unfolding table
-codes-in-order posting rec = refl
+codes-in-order toBePosted rec = refl
 
 -- none of them is 0
-pub none-zero : (posting : Bool) (rec : List ℕ) → lacks 0 (map codeOf (table posting rec)) ≡ true
+pub none-zero : (toBePosted : Bool) (rec : List ℕ) → lacks 0 (map codeOf (table toBePosted rec)) ≡ true
 unfolding lacks
-none-zero posting rec = rw (codes-in-order posting rec)
+none-zero toBePosted rec = rw (codes-in-order toBePosted rec)
 
 -- ---- a list of codes
 -- one that is there is not one that it lacks

@@ -12,11 +12,11 @@ use lib.ListN.{length}
 use Rattle.text.specs.declared.Answer.{Answer}
 use Rattle.text.specs.Answers.{answer, accepted}
 use Rattle.text.proofs.Booleans.{clash}
-use Rattle.record.specs.Table.{Case, Rule, firstCase, firstRule, verdict, anyCase, broken}
+use Rattle.record.specs.Table.{Case, Rule, firstCase, firstRule, verdict, anyCase, broken, codeOf}
 use Rattle.record.specs.Rules.{table, recordAnswer}
 use Rattle.record.specs.Codes.{tableCodes, recordCodes, lacks}
-use Rattle.record.specs.Outcomes.{noCase, noneBroken, FirstCase, FirstBroken, Outcome, good, bad}
-use Rattle.record.proofs.Codes.{codeOf, codes-in-order, lacks-other, lacks-behind, lacks-there, none-zero}
+use Rattle.record.specs.Outcomes.{noCase, noneBroken, FirstCase, FirstBroken, TableOutcome, good, bad}
+use Rattle.record.proofs.Codes.{codes-in-order, lacks-other, lacks-behind, lacks-there, none-zero}
 
 -- ---- one rule
 data Judged (c : ℕ) (ks : List Case) (b r : Answer) : Type 0 where
@@ -36,12 +36,12 @@ judge-case c (k ∷ ks) b = go (k .when) refl (judge-case c ks b)
         (record { before = k ∷ (f .before); here = f .here; after = f .after; split = ap (λ (l : List Case). k ∷ l) (f .split); none = rw e (f .none); holds = f .holds; says = f .says })
 
 -- ---- a table
-pub outcome : (rs : List Rule) → Outcome rs (verdict rs)
+pub outcome : (rs : List Rule) → TableOutcome rs (verdict rs)
 unfolding noneBroken
 outcome [] = good refl refl
 outcome (r ∷ rs) = go (judge-case (r .code) (r .cases) (verdict rs)) (outcome rs)
   where
-    go : {a : Answer} → Judged (r .code) (r .cases) (verdict rs) a → Outcome rs (verdict rs) → Outcome (r ∷ rs) a
+    go : {a : Answer} → Judged (r .code) (r .cases) (verdict rs) a → TableOutcome rs (verdict rs) → TableOutcome (r ∷ rs) a
     go (breaks y f) o = bad (rw y) (record { before = []; here = r; after = rs; split = refl; none = refl; case = f })
     go (passes n e) (good q g) = good (rw n q) (e ∙ g)
     go (passes n e) (bad q g) =
@@ -50,15 +50,15 @@ outcome (r ∷ rs) = go (judge-case (r .code) (r .cases) (verdict rs)) (outcome 
 
 -- ---- the record
 -- what `check` answers to a record of 399 bytes: 0 where no rule is broken, else the first rule that is, at the place of its first case
-pub record-outcome : (posting : Bool) (rec : List ℕ) → length rec ≡ 399 → Outcome (table posting rec) (recordAnswer posting rec)
+pub record-outcome : (toBePosted : Bool) (rec : List ℕ) → length rec ≡ 399 → TableOutcome (table toBePosted rec) (recordAnswer toBePosted rec)
 unfolding recordAnswer
-record-outcome posting rec e = rw (eq-eqb (length rec) 399 e) (outcome (table posting rec))
+record-outcome toBePosted rec e = rw (eq-eqb (length rec) 399 e) (outcome (table toBePosted rec))
 
 -- code 0 exactly if none of the conditions holds
-pub accepted-exactly : (posting : Bool) (rec : List ℕ) → length rec ≡ 399 → (recordAnswer posting rec .code ≡ 0) ↔ (noneBroken (table posting rec) ≡ true)
-accepted-exactly posting rec e = go (record-outcome posting rec e) (none-zero posting rec)
+pub accepted-exactly : (toBePosted : Bool) (rec : List ℕ) → length rec ≡ 399 → (recordAnswer toBePosted rec .code ≡ 0) ↔ (noneBroken (table toBePosted rec) ≡ true)
+accepted-exactly toBePosted rec e = go (record-outcome toBePosted rec e) (none-zero toBePosted rec)
   where
-    go : {rs : List Rule} {a : Answer} → Outcome rs a → lacks 0 (map codeOf rs) ≡ true → (a .code ≡ 0) ↔ (noneBroken rs ≡ true)
+    go : {rs : List Rule} {a : Answer} → TableOutcome rs a → lacks 0 (map codeOf rs) ≡ true → (a .code ≡ 0) ↔ (noneBroken rs ≡ true)
     go (good q g) n = (λ z. q, λ t. ap (λ (x : Answer). x .code) g)
     go {rs} (bad q f) n = (
       λ z. absurd (lacks-other 0 (f .here .code) (map codeOf rs) (rw (f .split) (lacks-there (f .before) (f .here) (f .after))) n (sym (ap (λ (x : Answer). x .code) (f .case .says)) ∙ z)),
@@ -66,24 +66,24 @@ accepted-exactly posting rec e = go (record-outcome posting rec e) (none-zero po
     )
 
 -- ---- and no other code than those of `recordCodes`
-other-length : (posting : Bool) (rec : List ℕ) → (length rec ≡ 399 → ⊥) → recordAnswer posting rec .code ≡ 236
+other-length : (toBePosted : Bool) (rec : List ℕ) → (length rec ≡ 399 → ⊥) → recordAnswer toBePosted rec .code ≡ 236
 unfolding recordAnswer
-other-length posting rec n = rw (ne-eqb (length rec) 399 n)
+other-length toBePosted rec n = rw (ne-eqb (length rec) 399 n)
 
-pub code-known : (posting : Bool) (rec : List ℕ) → lacks (recordAnswer posting rec .code) recordCodes ≡ false
+pub code-known : (toBePosted : Bool) (rec : List ℕ) → lacks (recordAnswer toBePosted rec .code) recordCodes ≡ false
 unfolding lacks
-code-known posting rec = go (eqb (length rec) 399) refl
+code-known toBePosted rec = go (eqb (length rec) 399) refl
   where
-    in-table : (c : ℕ) → lacks c (map codeOf (table posting rec)) ≡ false → lacks c recordCodes ≡ false
-    in-table c there = lacks-behind c 0 (236 ∷ tableCodes) (lacks-behind c 236 tableCodes (rw (codes-in-order posting rec) at there))
+    in-table : (c : ℕ) → lacks c (map codeOf (table toBePosted rec)) ≡ false → lacks c recordCodes ≡ false
+    in-table c there = lacks-behind c 0 (236 ∷ tableCodes) (lacks-behind c 236 tableCodes (rw (codes-in-order toBePosted rec) at there))
 
-    judged : {a : Answer} → Outcome (table posting rec) a → lacks (a .code) recordCodes ≡ false
+    judged : {a : Answer} → TableOutcome (table toBePosted rec) a → lacks (a .code) recordCodes ≡ false
     judged (good g e) = rw e
     judged (bad g f) = rw (ap (λ (x : Answer). x .code) (f .case .says)) (in-table (f .here .code) (rw (f .split) (lacks-there (f .before) (f .here) (f .after))))
 
-    go : (t : Bool) → eqb (length rec) 399 ≡ t → lacks (recordAnswer posting rec .code) recordCodes ≡ false
-    go true e = judged (record-outcome posting rec (eqb-true _ 399 e))
-    go false e = rw (other-length posting rec (eqb-false _ 399 e))
+    go : (t : Bool) → eqb (length rec) 399 ≡ t → lacks (recordAnswer toBePosted rec .code) recordCodes ≡ false
+    go true e = judged (record-outcome toBePosted rec (eqb-true _ 399 e))
+    go false e = rw (other-length toBePosted rec (eqb-false _ 399 e))
 
-pub no-other-code : (posting : Bool) (rec : List ℕ) (c : ℕ) → lacks c recordCodes ≡ true → recordAnswer posting rec .code ≡ c → ⊥
-no-other-code posting rec c l z = lacks-other c (recordAnswer posting rec .code) recordCodes (code-known posting rec) l z
+pub no-other-code : (toBePosted : Bool) (rec : List ℕ) (c : ℕ) → lacks c recordCodes ≡ true → recordAnswer toBePosted rec .code ≡ c → ⊥
+no-other-code toBePosted rec c l z = lacks-other c (recordAnswer toBePosted rec .code) recordCodes (code-known toBePosted rec) l z

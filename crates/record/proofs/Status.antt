@@ -3,24 +3,25 @@
 -- Assumes nothing.
 use Prim.Native.Nat.{ℕ, zero, suc, _+_, _-_, _≤_, _<_}
 use mathlib.Core.Path.{_≡_, refl, sym, ap, _∙_}
-use mathlib.Core.Bool.{Bool, true, false, cond, _&&_, and-eq-true-iff}
+use mathlib.Core.Bool.{Bool, true, false, cond, _&&_}
 use mathlib.Core.List.{List, [], _∷_}
 use native.Mathlib.Omega.{arith}
-use borrow.Author.Tests.{eq-eqb, eqb-true, eqb-false, leb-true, ltb-true, ltb-false}
-use lib.Dec.{eqb, leb, ltb}
+use borrow.Author.Tests.{eq-eqb, eqb-true, eqb-false, ltb-true, ltb-false}
+use lib.Dec.{eqb, ltb}
 use lib.ListN.{length, getD, take, drop, set, length-set}
 use lib.Seq.{take-set-le, drop-set-lt, drop-set-add, drop-cons, getD-set-same, getD-set-other}
 use Rattle.layout.specs.Widths.{start, cut}
 use Rattle.layout.specs.Layout.{widths, isField, fieldOf}
 use Rattle.layout.proofs.Tiling.{no-overlap}
+use Rattle.layout.proofs.Fields.{field-range}
 use Rattle.fields.specs.declared.others.StatusReading.{StatusReading}
 use Rattle.fields.specs.declared.others.StatusReading.the-variants as Status
 use Rattle.fields.specs.Others.{readStatus}
 use Rattle.fields.proofs.OtherLaws.{live-exactly, cancelled-exactly}
 use Rattle.text.specs.Answers.{answer}
-use Rattle.text.proofs.Booleans.{clash}
+use Rattle.text.proofs.Booleans.{clash, both}
 use Rattle.record.specs.Table.{Rule, placesFrom, anyCase, broken, verdict}
-use Rattle.record.specs.Readings.{whenOf, addressOf, contactOf, goodsOf, marksOf, pieceOf, tailOf, malformedStatus, cancelledRec}
+use Rattle.record.specs.Readings.{whenOf, addressOf, streetOf, contactOf, goodsOf, marksOf, pieceOf, tailOf, malformedStatus, cancelledRec}
 use Rattle.record.specs.Rules.{malformed, givenOf, travelOf, table, recordAnswer}
 use Rattle.record.specs.Outcomes.{noneBroken}
 use Rattle.record.proofs.Order.{accepted-exactly}
@@ -58,16 +59,14 @@ unfolding fieldOf
 cancelled-rec-others rec n other = rw (cancelled-rec-long rec) (go (eqb (length rec) 399 && isField n) refl)
   where
     there : (b : Bool) → ltb n 19 ≡ b → isField n ≡ true → cut widths (cancelledRec rec) (n - 1) ≡ cut widths rec (n - 1)
-    there b e f =
-        let range = and-eq-true-iff (leb 1 n) (leb n 26) .0 f in
-        by b e (leb-true 1 n (range .0)) (leb-true n 26 (range .1))
+    there b e f = let range = field-range n f in by b e (range .0) (range .1)
       where
         by : (b : Bool) → ltb n 19 ≡ b → 1 ≤ n → n ≤ 26 → cut widths (cancelledRec rec) (n - 1) ≡ cut widths rec (n - 1)
         by true e low high = let l = ltb-true n 19 e in cut-before rec (n - 1) (omega arith)
         by false e low high = let l = ltb-false n 19 e in cut-behind rec (n - 1) (omega (arith, other)) (omega arith)
 
     go : (t : Bool) → eqb (length rec) 399 && isField n ≡ t → cond t (cut widths (cancelledRec rec) (n - 1)) [] ≡ cond t (cut widths rec (n - 1)) []
-    go true e = there (ltb n 19) refl (and-eq-true-iff (eqb (length rec) 399) (isField n) .0 e .1)
+    go true e = there (ltb n 19) refl (both (eqb (length rec) 399) (isField n) e .1)
     go false e = refl
 
 -- and the status is "0 "
@@ -107,7 +106,7 @@ second-kept r s rs h = go (broken r) (broken s) h
 
 -- which of the fields 2 to 26 are malformed
 abbrev pub malformedIn : Bool → List ℕ → List Bool
-malformedIn toBePosted rec = malformed toBePosted (whenOf rec) (addressOf rec) (contactOf rec) (goodsOf rec) (marksOf rec) (pieceOf rec) (tailOf rec)
+malformedIn toBePosted rec = malformed toBePosted (whenOf rec) (addressOf rec) (streetOf rec) (contactOf rec) (goodsOf rec) (marksOf rec) (pieceOf rec) (tailOf rec)
 
 pub none-malformed : (toBePosted : Bool) (rec : List ℕ) → noneBroken (table toBePosted rec) ≡ true → (k : ℕ) → getD (malformedIn toBePosted rec) k false ≡ false
 unfolding table

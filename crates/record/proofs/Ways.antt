@@ -31,6 +31,7 @@ use Rattle.fields.specs.Others.{malformedCountry, absentCountry, malformedEmpty
 use Rattle.fields.specs.Amounts.{malformedWeight, absentOrZeroWeight, malformedMoney, absentMoney, absentOrZeroMoney}
 use Rattle.fields.specs.Services.{hasCode, malformedServices, servicesIn}
 use Rattle.record.specs.declared.readings.Address.{Address}
+use Rattle.record.specs.declared.readings.Street.{Street}
 use Rattle.record.specs.declared.readings.Contact.{Contact}
 use Rattle.record.specs.declared.readings.Goods.{Goods}
 use Rattle.record.specs.declared.readings.Marks.{Marks}
@@ -42,8 +43,8 @@ use Rattle.record.specs.declared.rules.Given.{Given}
 use Rattle.record.specs.declared.rules.Travel.{Travel}
 use Rattle.record.specs.Table.{Case, Rule, at, rule, placesFrom, firstCase, firstRule, verdict}
 use Rattle.record.specs.Columns.{whens, codeColumn, placeColumn, firstTrue}
-use Rattle.record.specs.Readings.{whenOf, addressOf, contactOf, goodsOf, marksOf, pieceOf, tailOf, malformedStatus}
-use Rattle.record.specs.Rules.{whenFlags, addressFlags, contactFlags, goodsFlags, marksFlags, pieceFlags, tailFlags, earlyFlags, lateFlags, malformed, malformedRule, askedOf, givenOf, isSetPrefix, travelOf, identifierRule, formOf, formRules, addressRule, weightRule, serviceRules, contentOf, contentRules, table, recordAnswer}
+use Rattle.record.specs.Readings.{whenOf, addressOf, streetOf, contactOf, goodsOf, marksOf, pieceOf, tailOf, malformedStatus}
+use Rattle.record.specs.Rules.{whenFlags, addressFlags, streetFlags, contactFlags, goodsFlags, marksFlags, pieceFlags, tailFlags, earlyFlags, lateFlags, malformed, malformedRule, askedOf, givenOf, isSetPrefix, travelOf, identifierRule, formOf, formRules, addressRule, weightRule, serviceRules, contentOf, contentRules, table, recordAnswer}
 use Rattle.record.proofs.Tables.{Malformed, groups-join, lowest, no-lowest, by-columns, rule-then, table-then}
 
 -- ---- the first true
@@ -83,10 +84,13 @@ pub when-form : (w : When) (a b : Bool) (r : Answer) → a ≡ malformedDate (w 
     → r ≡ Malformed 2 (a ∷ b ∷ []) → r ≡ Malformed 2 (whenFlags w)
 when-form w a b r ea eb er = er ∙ rw (ea, eb)
 
-pub address-form : (w : Address) (a b c d e f g h : Bool) (r : Answer) → a ≡ malformedText (w .name) → b ≡ malformedNumber (w .postcode) → c ≡ malformedCountry (w .country)
-    → d ≡ malformedText (w .municipality) → e ≡ malformedText (w .district) → f ≡ malformedText (w .street) → g ≡ malformedText (w .house) → h ≡ malformedText (w .orientation)
-    → r ≡ Malformed 4 (a ∷ b ∷ c ∷ d ∷ e ∷ f ∷ g ∷ h ∷ []) → r ≡ Malformed 4 (addressFlags w)
-address-form w a b c d e f g h r ea eb ec ed ee ef eg eh er = er ∙ rw (ea, eb, ec, ed, ee, ef, eg, eh)
+pub address-form : (w : Address) (a b c d : Bool) (r : Answer) → a ≡ malformedText (w .name) → b ≡ malformedNumber (w .postcode) → c ≡ malformedCountry (w .country)
+    → d ≡ malformedText (w .municipality) → r ≡ Malformed 4 (a ∷ b ∷ c ∷ d ∷ []) → r ≡ Malformed 4 (addressFlags w)
+address-form w a b c d r ea eb ec ed er = er ∙ rw (ea, eb, ec, ed)
+
+pub street-form : (w : Street) (a b c d : Bool) (r : Answer) → a ≡ malformedText (w .district) → b ≡ malformedText (w .street) → c ≡ malformedText (w .house)
+    → d ≡ malformedText (w .orientation) → r ≡ Malformed 8 (a ∷ b ∷ c ∷ d ∷ []) → r ≡ Malformed 8 (streetFlags w)
+street-form w a b c d r ea eb ec ed er = er ∙ rw (ea, eb, ec, ed)
 
 pub contact-form : (w : Contact) (a b c : Bool) (r : Answer) → a ≡ malformedNumber (w .telephone) → b ≡ malformedText (w .mail) → c ≡ malformedEmpty (w .empty)
     → r ≡ Malformed 12 (a ∷ b ∷ c ∷ []) → r ≡ Malformed 12 (contactFlags w)
@@ -113,27 +117,31 @@ tail-form w a b r ea eb er = er ∙ rw (ea, eb)
 behind : (p q : ℕ) (xs ys : List Bool) (a b r : Answer) → q ≡ p + length xs → a ≡ Malformed p xs → b ≡ Malformed q ys → r ≡ orElse a b → r ≡ Malformed p (xs ++ ys)
 behind p q xs ys a b r e ea eb er = er ∙ rw (ea, eb) (groups-join p q xs ys e)
 
-pub early-is : (w : When) (a : Address) (c : Contact) (a1 a2 a3 r2 r1 : Answer)
-    → a2 ≡ Malformed 4 (addressFlags a) → a3 ≡ Malformed 12 (contactFlags c) → r2 ≡ orElse a2 a3 → a1 ≡ Malformed 2 (whenFlags w) → r1 ≡ orElse a1 r2
-    → r1 ≡ Malformed 2 (earlyFlags w a c)
-early-is w a c a1 a2 a3 r2 r1 e2 e3 q2 e1 q1 =
-    behind 2 4 (whenFlags w) (addressFlags a ++ contactFlags c) a1 r2 r1 refl e1 (behind 4 12 (addressFlags a) (contactFlags c) a2 a3 r2 refl e2 e3 q2) q1
+pub early-is : (rec : List ℕ) (w : When) (a : Address) (s : Street) (c : Contact) (a1 a2 a3 a4 r3 r2 r1 : Answer)
+    → s ≡ streetOf rec → a3 ≡ Malformed 8 (streetFlags s) → a4 ≡ Malformed 12 (contactFlags c) → r3 ≡ orElse a3 a4 → a2 ≡ Malformed 4 (addressFlags a) → r2 ≡ orElse a2 r3
+    → w ≡ whenOf rec → a1 ≡ Malformed 2 (whenFlags w) → r1 ≡ orElse a1 r2
+    → r1 ≡ Malformed 2 (earlyFlags (whenOf rec) a (streetOf rec) c)
+early-is rec w a s c a1 a2 a3 a4 r3 r2 r1 es e3 e4 q3 e2 q2 ew e1 q1 =
+    behind 2 4 (whenFlags (whenOf rec)) (addressFlags a ++ (streetFlags (streetOf rec) ++ contactFlags c)) a1 r2 r1 refl (e1 ∙ rw ew)
+    (behind 4 8 (addressFlags a) (streetFlags (streetOf rec) ++ contactFlags c) a2 r3 r2 refl e2
+    (behind 8 12 (streetFlags (streetOf rec)) (contactFlags c) a3 a4 r3 refl (e3 ∙ rw es) e4 q3) q2) q1
 
-pub late-is : (toBePosted : Bool) (g : Goods) (m : Marks) (p : Piece) (t : Tail) (a1 a2 a3 a4 r3 r2 r1 : Answer)
-    → a3 ≡ Malformed 22 (pieceFlags p) → a4 ≡ Malformed 25 (tailFlags t) → r3 ≡ orElse a3 a4 → a2 ≡ Malformed 20 (marksFlags m) → r2 ≡ orElse a2 r3
+pub late-is : (toBePosted : Bool) (rec : List ℕ) (g : Goods) (m : Marks) (p : Piece) (t : Tail) (a1 a2 a3 a4 r3 r2 r1 : Answer)
+    → a3 ≡ Malformed 22 (pieceFlags p) → t ≡ tailOf rec → a4 ≡ Malformed 25 (tailFlags t) → r3 ≡ orElse a3 a4 → a2 ≡ Malformed 20 (marksFlags m) → r2 ≡ orElse a2 r3
     → a1 ≡ Malformed 15 (goodsFlags toBePosted g) → r1 ≡ orElse a1 r2
-    → r1 ≡ Malformed 15 (lateFlags toBePosted g m p t)
-late-is toBePosted g m p t a1 a2 a3 a4 r3 r2 r1 e3 e4 q3 e2 q2 e1 q1 =
-    behind 15 20 (goodsFlags toBePosted g) (marksFlags m ++ (pieceFlags p ++ tailFlags t)) a1 r2 r1 refl e1
-    (behind 20 22 (marksFlags m) (pieceFlags p ++ tailFlags t) a2 r3 r2 refl e2
-    (behind 22 25 (pieceFlags p) (tailFlags t) a3 a4 r3 refl e3 e4 q3) q2) q1
+    → r1 ≡ Malformed 15 (lateFlags toBePosted g m p (tailOf rec))
+late-is toBePosted rec g m p t a1 a2 a3 a4 r3 r2 r1 e3 et e4 q3 e2 q2 e1 q1 =
+    behind 15 20 (goodsFlags toBePosted g) (marksFlags m ++ (pieceFlags p ++ tailFlags (tailOf rec))) a1 r2 r1 refl e1
+    (behind 20 22 (marksFlags m) (pieceFlags p ++ tailFlags (tailOf rec)) a2 r3 r2 refl e2
+    (behind 22 25 (pieceFlags p) (tailFlags (tailOf rec)) a3 a4 r3 refl e3 (e4 ∙ rw et) q3) q2) q1
 
-pub form-is : (toBePosted : Bool) (rec : List ℕ) (w : When) (a : Address) (c : Contact) (g : Goods) (m : Marks) (p : Piece) (t : Tail) (a1 a2 a3 r2 r1 : Answer)
-    → a2 ≡ Malformed 2 (earlyFlags w a c) → a3 ≡ Malformed 15 (lateFlags toBePosted g m p t) → r2 ≡ orElse a2 a3 → a1 ≡ verdict (identifierRule rec ∷ []) → r1 ≡ orElse a1 r2
-    → r1 ≡ verdict (formOf toBePosted rec w a c g m p t)
-form-is toBePosted rec w a c g m p t a1 a2 a3 r2 r1 e2 e3 q2 e1 q1 =
-    let rest = behind 2 15 (earlyFlags w a c) (lateFlags toBePosted g m p t) a2 a3 r2 refl e2 e3 q2 in
-    q1 ∙ rw (e1, rest) (rule-then (identifierRule rec) (malformedRule (malformed toBePosted w a c g m p t) ∷ []) (λ e. omega arith))
+pub form-is : (toBePosted : Bool) (rec : List ℕ) (a : Address) (c : Contact) (g : Goods) (m : Marks) (p : Piece) (a1 a2 a3 r2 r1 : Answer)
+    → a2 ≡ Malformed 2 (earlyFlags (whenOf rec) a (streetOf rec) c) → a3 ≡ Malformed 15 (lateFlags toBePosted g m p (tailOf rec)) → r2 ≡ orElse a2 a3
+    → a1 ≡ verdict (identifierRule rec ∷ []) → r1 ≡ orElse a1 r2
+    → r1 ≡ verdict (formOf toBePosted rec a c g m p)
+form-is toBePosted rec a c g m p a1 a2 a3 r2 r1 e2 e3 q2 e1 q1 =
+    let rest = behind 2 15 (earlyFlags (whenOf rec) a (streetOf rec) c) (lateFlags toBePosted g m p (tailOf rec)) a2 a3 r2 refl e2 e3 q2 in
+    q1 ∙ rw (e1, rest) (rule-then (identifierRule rec) (malformedRule (malformed toBePosted (whenOf rec) a (streetOf rec) c g m p (tailOf rec)) ∷ []) (λ e. omega arith))
 
 -- ---- address and weight
 module _ (a : Address) (h n : Bool) (eh : h ≡ absentCountry (a .country)) (en : n ≡ absentNumber (a .postcode)) (x : Bool) (ex : x ≡ absentText (a .name)) where
@@ -205,13 +213,13 @@ content-is rec a c g m p v q f t a1 a2 a3 r2 r1 ev eq ef et e3 e2 g2 e1 g1 =
     let weight : r2 ≡ verdict (weightRule g ∷ serviceRules (askedOf (servicesIn (g .services))) (givenOf c g m) (travelOf rec p)) = g2 ∙ rw (e2, services) (rule-then (weightRule g) (serviceRules (askedOf (servicesIn (g .services))) (givenOf c g m) (travelOf rec p)) (λ e. omega arith)) in
     g1 ∙ rw (e1, weight) (rule-then (addressRule a) (weightRule g ∷ serviceRules (askedOf (servicesIn (g .services))) (givenOf c g m) (travelOf rec p)) (λ e. omega arith))
 
-pub record-judged : (toBePosted : Bool) (rec : List ℕ) (w : When) (a : Address) (c : Contact) (g : Goods) (m : Marks) (p : Piece) (t : Tail) (form content r : Answer)
-    → w ≡ whenOf rec → a ≡ addressOf rec → c ≡ contactOf rec → g ≡ goodsOf rec → m ≡ marksOf rec → p ≡ pieceOf rec → t ≡ tailOf rec
-    → form ≡ verdict (formOf toBePosted rec w a c g m p t) → content ≡ verdict (contentOf rec a c g m p) → r ≡ orElse form content
+pub record-judged : (toBePosted : Bool) (rec : List ℕ) (a : Address) (c : Contact) (g : Goods) (m : Marks) (p : Piece) (form content r : Answer)
+    → a ≡ addressOf rec → c ≡ contactOf rec → g ≡ goodsOf rec → m ≡ marksOf rec → p ≡ pieceOf rec
+    → form ≡ verdict (formOf toBePosted rec a c g m p) → content ≡ verdict (contentOf rec a c g m p) → r ≡ orElse form content
     → r ≡ verdict (table toBePosted rec)
 unfolding table
-record-judged toBePosted rec w a c g m p t form content r ew ea ec eg em ep et ef en er =
-    rw (er, ef, en, ew, ea, ec, eg, em, ep, et) (table-then (formRules toBePosted rec) (contentRules rec) (λ e. omega arith, (λ e. omega arith, tt)))
+record-judged toBePosted rec a c g m p form content r ea ec eg em ep ef en er =
+    rw (er, ef, en, ea, ec, eg, em, ep) (table-then (formRules toBePosted rec) (contentRules rec) (λ e. omega arith, (λ e. omega arith, tt)))
 
 pub record-wide : (toBePosted : Bool) (rec : List ℕ) → (length rec ≡ 399 → ⊥) → wrongLength ≡ recordAnswer toBePosted rec
 unfolding recordAnswer

@@ -54,8 +54,8 @@ secondPiece =
     recordOf
     ("BO0100010005F" ∷ "20240101" ∷ "08:00:00" ∷ "Eva" ∷ "60200" ∷ "" ∷ "Brno" ∷ "" ∷ "" ∷ "" ∷ "" ∷ "" ∷ "" ∷ "" ∷ " 0.001" ∷ "" ∷ "" ∷ "70" ∷ "" ∷ "" ∷ "" ∷ "BO5412345671F" ∷ "02" ∷ "03" ∷ [])
 
-unfoldable pub cancelled : List ℕ
-cancelled = parcel "BO0100010045F" "Eva" "0 "
+unfoldable pub cancelledParcel : List ℕ
+cancelledParcel = parcel "BO0100010045F" "Eva" "0 "
 
 -- ---- the answer to a record, in a file or to be posted
 unfoldable pub answers : ℕ → ℕ → Answer → Bool
@@ -67,10 +67,10 @@ claims =
     ∷ answers 0 0 (recordAnswer true abroad)
     ∷ answers 0 0 (recordAnswer true cashOnDelivery)
     ∷ answers 0 0 (recordAnswer true secondPiece)
-    ∷ answers 0 0 (recordAnswer false cancelled)
-    ∷ answers 210 19 (recordAnswer true cancelled)
+    ∷ answers 0 0 (recordAnswer false cancelledParcel)
+    ∷ answers 210 19 (recordAnswer true cancelledParcel)
     ∷ []
 
 pub shown : allHold claims ≡ true
-unfolding bytes allHold every run numberAfter sameBytes shapeOf weighted endsRight rightId partsOf fieldOf framed daysIn readDate readTime filled contains isHost isMail isMoney codesFrom hasCode withCode added readServices askedOf givenOf travelOf table recordAnswer inField laidOut recordOf parcel domestic abroad cashOnDelivery secondPiece cancelled answers claims
+unfolding bytes allHold every run numberAfter sameBytes shapeOf weighted endsRight rightId partsOf fieldOf framed daysIn readDate readTime filled contains isHost isMail isMoney codesFrom hasCode withCode added readServices askedOf givenOf travelOf table recordAnswer inField laidOut recordOf parcel domestic abroad cashOnDelivery secondPiece cancelledParcel answers claims
 shown = refl

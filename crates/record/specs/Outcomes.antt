@@ -36,6 +36,6 @@ pub record FirstBroken (rs : List Rule) (a : Answer) : Type 0 where
   pub case : FirstCase (here .code) (here .cases) a
 
 -- ---- the answer of a table: 0 where no rule is broken, else the first that is, at the place of its first case that holds
-pub data Outcome (rs : List Rule) (a : Answer) : Type 0 where
-  good : noneBroken rs ≡ true → a ≡ accepted → Outcome rs a
-  bad : noneBroken rs ≡ false → FirstBroken rs a → Outcome rs a
+pub data TableOutcome (rs : List Rule) (a : Answer) : Type 0 where
+  good : noneBroken rs ≡ true → a ≡ accepted → TableOutcome rs a
+  bad : noneBroken rs ≡ false → FirstBroken rs a → TableOutcome rs a

@@ -17,6 +17,7 @@ use Rattle.fields.specs.Amounts.{readWeight, readMoney}
 use Rattle.fields.specs.Services.{readServices}
 use Rattle.record.specs.declared.readings.When.{When}
 use Rattle.record.specs.declared.readings.Address.{Address}
+use Rattle.record.specs.declared.readings.Street.{Street}
 use Rattle.record.specs.declared.readings.Contact.{Contact}
 use Rattle.record.specs.declared.readings.Goods.{Goods}
 use Rattle.record.specs.declared.readings.Marks.{Marks}
@@ -40,11 +41,10 @@ addressOf rec = record {
   postcode = readPostcode (fieldOf rec 5);
   country = readCountry (fieldOf rec 6);
   municipality = textIn rec 7;
-  district = textIn rec 8;
-  street = textIn rec 9;
-  house = textIn rec 10;
-  orientation = textIn rec 11;
 }
+
+abbrev pub streetOf : List ℕ → Street
+streetOf rec = record { district = textIn rec 8; street = textIn rec 9; house = textIn rec 10; orientation = textIn rec 11 }
 
 abbrev pub contactOf : List ℕ → Contact
 contactOf rec = record {

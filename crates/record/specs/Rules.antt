@@ -18,6 +18,7 @@ use Rattle.fields.specs.Others.{malformedCountry, absentCountry, malformedEmpty
 use Rattle.fields.specs.Amounts.{malformedWeight, absentOrZeroWeight, malformedMoney, absentMoney, absentOrZeroMoney}
 use Rattle.fields.specs.Services.{hasCode, malformedServices, servicesIn}
 use Rattle.record.specs.declared.readings.Address.{Address}
+use Rattle.record.specs.declared.readings.Street.{Street}
 use Rattle.record.specs.declared.readings.Contact.{Contact}
 use Rattle.record.specs.declared.readings.Goods.{Goods}
 use Rattle.record.specs.declared.readings.Marks.{Marks}
@@ -28,7 +29,7 @@ use Rattle.record.specs.declared.rules.Asked.{Asked}
 use Rattle.record.specs.declared.rules.Given.{Given}
 use Rattle.record.specs.declared.rules.Travel.{Travel}
 use Rattle.record.specs.Table.{Case, Rule, at, rule, placesFrom, verdict}
-use Rattle.record.specs.Readings.{whenOf, addressOf, contactOf, goodsOf, marksOf, pieceOf, tailOf, malformedStatus}
+use Rattle.record.specs.Readings.{whenOf, addressOf, streetOf, contactOf, goodsOf, marksOf, pieceOf, tailOf, malformedStatus}
 
 -- ---- which fields are malformed
 abbrev pub whenFlags : When → List Bool
@@ -36,8 +37,10 @@ whenFlags w = malformedDate (w .date) ∷ malformedTime (w .time) ∷ []
 
 abbrev pub addressFlags : Address → List Bool
 addressFlags a =
-    malformedText (a .name) ∷ malformedNumber (a .postcode) ∷ malformedCountry (a .country) ∷ malformedText (a .municipality)
-    ∷ malformedText (a .district) ∷ malformedText (a .street) ∷ malformedText (a .house) ∷ malformedText (a .orientation) ∷ []
+    malformedText (a .name) ∷ malformedNumber (a .postcode) ∷ malformedCountry (a .country) ∷ malformedText (a .municipality) ∷ []
+
+abbrev pub streetFlags : Street → List Bool
+streetFlags s = malformedText (s .district) ∷ malformedText (s .street) ∷ malformedText (s .house) ∷ malformedText (s .orientation) ∷ []
 
 abbrev pub contactFlags : Contact → List Bool
 contactFlags c = malformedNumber (c .telephone) ∷ malformedText (c .mail) ∷ malformedEmpty (c .empty) ∷ []
@@ -57,15 +60,15 @@ abbrev pub tailFlags : Tail → List Bool
 tailFlags t = malformedEmpty (t .empty) ∷ malformedText (t .sender) ∷ []
 
 -- fields 2 to 14, and 15 to 26
-abbrev pub earlyFlags : When → Address → Contact → List Bool
-earlyFlags w a c = whenFlags w ++ (addressFlags a ++ contactFlags c)
+abbrev pub earlyFlags : When → Address → Street → Contact → List Bool
+earlyFlags w a s c = whenFlags w ++ (addressFlags a ++ (streetFlags s ++ contactFlags c))
 
 abbrev pub lateFlags : Bool → Goods → Marks → Piece → Tail → List Bool
 lateFlags toBePosted g m p t = goodsFlags toBePosted g ++ (marksFlags m ++ (pieceFlags p ++ tailFlags t))
 
 -- fields 2 to 26, in their order
-abbrev pub malformed : Bool → When → Address → Contact → Goods → Marks → Piece → Tail → List Bool
-malformed toBePosted w a c g m p t = earlyFlags w a c ++ lateFlags toBePosted g m p t
+abbrev pub malformed : Bool → When → Address → Street → Contact → Goods → Marks → Piece → Tail → List Bool
+malformed toBePosted w a s c g m p t = earlyFlags w a s c ++ lateFlags toBePosted g m p t
 
 -- ---- what the rules on money and services ask
 -- which services are there; `cashService` is one of 2, 4, 5 and 41
@@ -121,12 +124,12 @@ identifierRule rec = rule 1 (at 1 (not (rightId (fieldOf rec 1))) ∷ [])
 abbrev pub malformedRule : List Bool → Rule
 malformedRule flags = rule 210 (placesFrom 2 flags)
 
-abbrev pub formOf : Bool → List ℕ → When → Address → Contact → Goods → Marks → Piece → Tail → List Rule
-formOf toBePosted rec w a c g m p t = identifierRule rec ∷ malformedRule (malformed toBePosted w a c g m p t) ∷ []
+abbrev pub formOf : Bool → List ℕ → Address → Contact → Goods → Marks → Piece → List Rule
+formOf toBePosted rec a c g m p = identifierRule rec ∷ malformedRule (malformed toBePosted (whenOf rec) a (streetOf rec) c g m p (tailOf rec)) ∷ []
 
 abbrev pub formRules : Bool → List ℕ → List Rule
 formRules toBePosted rec =
-    formOf toBePosted rec (whenOf rec) (addressOf rec) (contactOf rec) (goodsOf rec) (marksOf rec) (pieceOf rec) (tailOf rec)
+    formOf toBePosted rec (addressOf rec) (contactOf rec) (goodsOf rec) (marksOf rec) (pieceOf rec)
 
 -- name blank; domestic with blank postcode, or abroad with a filled one; municipality blank
 abbrev pub addressRule : Address → Rule

@@ -45,3 +45,6 @@ anyCase (k ∷ ks) = k .when || anyCase ks
 
 abbrev pub broken : Rule → Bool
 broken r = anyCase (r .cases)
+
+abbrev pub codeOf : Rule → ℕ
+codeOf r = r .code

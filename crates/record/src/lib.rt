@@ -15,24 +15,12 @@ use text::WRONG_LENGTH;
 fn judged(rec: &[u8], fresh: bool) -> Answer
     ensures { λ r. ⌜ r ≡ verdict (table fresh (now (rec .entry))) ⌝ }
 {
-    let when = readings::read_when(rec);
     let address = readings::read_address(rec);
     let contact = readings::read_contact(rec);
     let goods = readings::read_goods(rec);
     let marks = readings::read_marks(rec);
     let piece = readings::read_piece(rec);
-    let tail = readings::read_tail(rec);
-    let form = rules::form_answer(
-        rec,
-        when,
-        address,
-        contact,
-        goods,
-        marks,
-        piece,
-        tail,
-        fresh,
-    );
+    let form = rules::form_answer(rec, address, contact, goods, marks, piece, fresh);
     form.or_else(rules::content_answer(rec, address, contact, goods, marks, piece))
 }
 

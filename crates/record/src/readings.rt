@@ -1,6 +1,6 @@
 // What is read of a record, field by field.
 ghost use mathlib.Core.Path.{_≡_};
-ghost use Rattle.record.specs.Readings.{textIn, emptyIn, whenOf, addressOf, contactOf, goodsOf, marksOf, pieceOf, tailOf};
+ghost use Rattle.record.specs.Readings.{whenOf, addressOf, streetOf, contactOf, goodsOf, marksOf, pieceOf, tailOf};
 use fields::CountryReading;
 use fields::DateReading;
 use fields::EmptyReading;
@@ -12,6 +12,7 @@ use fields::StatusReading;
 use fields::TextReading;
 use fields::TimeReading;
 use fields::WeightReading;
+use layout::WIDTHS;
 
 // Fields 2 and 3.
 pub struct When {
@@ -19,12 +20,16 @@ pub struct When {
     pub time: TimeReading,
 }
 
-// Fields 4 to 11.
+// Fields 4 to 7.
 pub struct Address {
     pub name: TextReading,
     pub postcode: NumberReading,
     pub country: CountryReading,
     pub municipality: TextReading,
+}
+
+// Fields 8 to 11.
+pub struct Street {
     pub district: TextReading,
     pub street: TextReading,
     pub house: TextReading,
@@ -66,20 +71,6 @@ pub struct Tail {
     pub sender: TextReading,
 }
 
-// Field n as a text.
-fn text_in(rec: &[u8], n: usize) -> TextReading
-    ensures { λ r. ⌜ r ≡ textIn (now (rec .entry)) n ⌝ }
-{
-    fields::read_text(layout::field(rec, n), layout::width(n))
-}
-
-// Field n as one that has to be blank.
-fn empty_in(rec: &[u8], n: usize) -> EmptyReading
-    ensures { λ r. ⌜ r ≡ emptyIn (now (rec .entry)) n ⌝ }
-{
-    fields::read_empty(layout::field(rec, n), layout::width(n))
-}
-
 pub(crate) fn read_when(rec: &[u8]) -> When
     ensures { λ r. ⌜ r ≡ whenOf (now (rec .entry)) ⌝ }
 {
@@ -91,19 +82,26 @@ pub(crate) fn read_when(rec: &[u8]) -> When
 pub(crate) fn read_address(rec: &[u8]) -> Address
     ensures { λ r. ⌜ r ≡ addressOf (now (rec .entry)) ⌝ }
 {
-    let name = text_in(rec, 4);
+    let name = fields::read_text(layout::field(rec, 4), WIDTHS[4 - 1]);
     let postcode = fields::read_postcode(layout::field(rec, 5));
     let country = fields::read_country(layout::field(rec, 6));
-    let municipality = text_in(rec, 7);
-    let district = text_in(rec, 8);
-    let street = text_in(rec, 9);
-    let house = text_in(rec, 10);
-    let orientation = text_in(rec, 11);
+    let municipality = fields::read_text(layout::field(rec, 7), WIDTHS[7 - 1]);
     Address {
         name,
         postcode,
         country,
         municipality,
+    }
+}
+
+pub(crate) fn read_street(rec: &[u8]) -> Street
+    ensures { λ r. ⌜ r ≡ streetOf (now (rec .entry)) ⌝ }
+{
+    let district = fields::read_text(layout::field(rec, 8), WIDTHS[8 - 1]);
+    let street = fields::read_text(layout::field(rec, 9), WIDTHS[9 - 1]);
+    let house = fields::read_text(layout::field(rec, 10), WIDTHS[10 - 1]);
+    let orientation = fields::read_text(layout::field(rec, 11), WIDTHS[11 - 1]);
+    Street {
         district,
         street,
         house,
@@ -116,7 +114,7 @@ pub(crate) fn read_contact(rec: &[u8]) -> Contact
 {
     let telephone = fields::read_telephone(layout::field(rec, 12));
     let mail = fields::read_mail(layout::field(rec, 13));
-    let empty = empty_in(rec, 14);
+    let empty = fields::read_empty(layout::field(rec, 14), WIDTHS[14 - 1]);
     Contact {
         telephone,
         mail,
@@ -144,7 +142,7 @@ pub(crate) fn read_goods(rec: &[u8]) -> Goods
 pub(crate) fn read_marks(rec: &[u8]) -> Marks
     ensures { λ r. ⌜ r ≡ marksOf (now (rec .entry)) ⌝ }
 {
-    let machine = text_in(rec, 20);
+    let machine = fields::read_text(layout::field(rec, 20), WIDTHS[20 - 1]);
     let symbol = fields::read_symbol(layout::field(rec, 21));
     Marks { machine, symbol }
 }
@@ -165,7 +163,7 @@ pub(crate) fn read_piece(rec: &[u8]) -> Piece
 pub(crate) fn read_tail(rec: &[u8]) -> Tail
     ensures { λ r. ⌜ r ≡ tailOf (now (rec .entry)) ⌝ }
 {
-    let empty = empty_in(rec, 25);
-    let sender = text_in(rec, 26);
+    let empty = fields::read_empty(layout::field(rec, 25), WIDTHS[25 - 1]);
+    let sender = fields::read_text(layout::field(rec, 26), WIDTHS[26 - 1]);
     Tail { empty, sender }
 }

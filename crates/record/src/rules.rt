@@ -6,16 +6,20 @@ ghost use lib.ListN.{length, getD};
 ghost use Rattle.fields.specs.Amounts.{absentOrZeroWeight};
 ghost use Rattle.record.specs.Table.{at, rule, placesFrom, verdict};
 ghost use Rattle.record.specs.Columns.{whens};
-ghost use Rattle.record.specs.Readings.{malformedStatus};
-ghost use Rattle.record.specs.Rules.{whenFlags, addressFlags, contactFlags, goodsFlags, marksFlags, pieceFlags, tailFlags, earlyFlags, lateFlags, askedOf, givenOf, isSetPrefix, travelOf, identifierRule, formOf, contentOf, addressRule, serviceRules};
+ghost use Rattle.record.specs.Readings.{whenOf, streetOf, tailOf, malformedStatus};
+ghost use Rattle.record.specs.Rules.{whenFlags, addressFlags, streetFlags, contactFlags, goodsFlags, marksFlags, pieceFlags, tailFlags, earlyFlags, lateFlags, askedOf, givenOf, isSetPrefix, travelOf, identifierRule, formOf, contentOf, addressRule, serviceRules};
 use crate::columns::first_true;
 use crate::readings::Address;
 use crate::readings::Contact;
 use crate::readings::Goods;
 use crate::readings::Marks;
 use crate::readings::Piece;
+use crate::readings::Street;
 use crate::readings::Tail;
 use crate::readings::When;
+use crate::readings::read_street;
+use crate::readings::read_tail;
+use crate::readings::read_when;
 use fields::Services;
 use fields::StatusReading;
 use fields::WeightReading;
@@ -63,21 +67,29 @@ fn address_form_answer(a: Address) -> Answer
     let postcode = a.postcode;
     let country = a.country;
     let municipality = a.municipality;
-    let district = a.district;
-    let street = a.street;
-    let house = a.house;
-    let orientation = a.orientation;
     let bad = [
         name.is_malformed(),
         postcode.is_malformed(),
         country.is_malformed(),
         municipality.is_malformed(),
+    ];
+    malformed_answer(&bad, 4)
+}
+
+fn street_answer(s: Street) -> Answer
+    ensures { λ r. ⌜ r ≡ verdict (rule 210 (placesFrom 8 (streetFlags s)) ∷ []) ⌝ }
+{
+    let district = s.district;
+    let street = s.street;
+    let house = s.house;
+    let orientation = s.orientation;
+    let bad = [
         district.is_malformed(),
         street.is_malformed(),
         house.is_malformed(),
         orientation.is_malformed(),
     ];
-    malformed_answer(&bad, 4)
+    malformed_answer(&bad, 8)
 }
 
 fn contact_answer(c: Contact) -> Answer
@@ -155,19 +167,20 @@ fn tail_answer(t: Tail) -> Answer
     malformed_answer(&bad, 25)
 }
 
-// Fields 2 to 14.
-fn early_answer(when: When, address: Address, contact: Contact) -> Answer
-    ensures { λ r. ⌜ r ≡ verdict (rule 210 (placesFrom 2 (earlyFlags when address contact)) ∷ []) ⌝ }
+// Fields 2 to 14. Those that no other rule asks for are read here.
+fn early_answer(rec: &[u8], address: Address, contact: Contact) -> Answer
+    ensures { λ r. ⌜ r ≡ verdict (rule 210 (placesFrom 2 (earlyFlags (whenOf (now (rec .entry))) address (streetOf (now (rec .entry))) contact)) ∷ []) ⌝ }
 {
-    let rest = address_form_answer(address).or_else(contact_answer(contact));
-    when_answer(when).or_else(rest)
+    let rest = street_answer(read_street(rec)).or_else(contact_answer(contact));
+    let rest = address_form_answer(address).or_else(rest);
+    when_answer(read_when(rec)).or_else(rest)
 }
 
-// Fields 15 to 26.
-fn late_answer(goods: Goods, marks: Marks, piece: Piece, tail: Tail, fresh: bool) -> Answer
-    ensures { λ r. ⌜ r ≡ verdict (rule 210 (placesFrom 15 (lateFlags fresh goods marks piece tail)) ∷ []) ⌝ }
+// Fields 15 to 26, likewise.
+fn late_answer(rec: &[u8], goods: Goods, marks: Marks, piece: Piece, fresh: bool) -> Answer
+    ensures { λ r. ⌜ r ≡ verdict (rule 210 (placesFrom 15 (lateFlags fresh goods marks piece (tailOf (now (rec .entry))))) ∷ []) ⌝ }
 {
-    let rest = piece_answer(piece).or_else(tail_answer(tail));
+    let rest = piece_answer(piece).or_else(tail_answer(read_tail(rec)));
     let rest = marks_answer(marks).or_else(rest);
     goods_answer(goods, fresh).or_else(rest)
 }
@@ -175,19 +188,17 @@ fn late_answer(goods: Goods, marks: Marks, piece: Piece, tail: Tail, fresh: bool
 // Codes 1 and 210.
 pub(crate) fn form_answer(
     rec: &[u8],
-    when: When,
     address: Address,
     contact: Contact,
     goods: Goods,
     marks: Marks,
     piece: Piece,
-    tail: Tail,
     fresh: bool,
 ) -> Answer
-    ensures { λ r. ⌜ r ≡ verdict (formOf fresh (now (rec .entry)) when address contact goods marks piece tail) ⌝ }
+    ensures { λ r. ⌜ r ≡ verdict (formOf fresh (now (rec .entry)) address contact goods marks piece) ⌝ }
 {
-    let early = early_answer(when, address, contact);
-    let rest = early.or_else(late_answer(goods, marks, piece, tail, fresh));
+    let early = early_answer(rec, address, contact);
+    let rest = early.or_else(late_answer(rec, goods, marks, piece, fresh));
     identifier_answer(rec).or_else(rest)
 }
 

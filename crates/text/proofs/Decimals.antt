@@ -1,4 +1,4 @@
--- How many places a number has in decimal, and that its decimal writing is read back and is the only one without leading zeros.
+-- How many decimal places a number has, and that its decimal writing is read back and is the only one without leading zeros.
 -- Assumes nothing.
 use Prim.Native.Nat.{ℕ, zero, suc, _+_, _-_, _*_, _/_, _^_, _≤_, _<_}
 use mathlib.Core.Path.{_≡_, refl, ap, _∙_}
@@ -10,71 +10,80 @@ use borrow.Author.Tests.{ltb-true, ltb-false, lt-ltb, le-ltb}
 use lib.Dec.{ltb}
 use lib.ListN.{length, getD}
 use Rattle.text.specs.Bytes.{isDigit, every, allDigits}
-use Rattle.text.specs.Numbers.{numberAfter, numberOf, digits, placesUpTo, places, decimal}
+use Rattle.text.specs.Numbers.{numberAfter, numberOf, digits, decimalPlacesUpTo, decimalPlaces, decimal}
 use Rattle.text.proofs.Numbers.{ten, ten-grows, digit-bounds, length-digits, digits-all, number-digits, number-below, digits-number, digits-beside}
 
--- ---- one place, or one more than the tenth has
-pub places-one : (k n : ℕ) → n < 10 → placesUpTo k n ≡ 1
-unfolding placesUpTo
-places-one zero n h = refl
-places-one (suc k) n h = rw (lt-ltb n 10 h)
+-- ---- one decimal place, or one more than the tenth has
+pub decimal-places-one : (k n : ℕ) → n < 10 → decimalPlacesUpTo k n ≡ 1
+unfolding decimalPlacesUpTo
+decimal-places-one zero n h = refl
+decimal-places-one (suc k) n h = rw (lt-ltb n 10 h)
 
-places-zero : (n : ℕ) → placesUpTo 0 n ≡ 1
-unfolding placesUpTo
-places-zero n = refl
+decimal-places-zero : (n : ℕ) → decimalPlacesUpTo 0 n ≡ 1
+unfolding decimalPlacesUpTo
+decimal-places-zero n = refl
 
-places-more : (k n : ℕ) → 10 ≤ n → placesUpTo (suc k) n ≡ suc (placesUpTo k (n / 10))
-unfolding placesUpTo
-places-more k n h = rw (le-ltb n 10 h)
+pub decimal-places-more : (k n : ℕ) → 10 ≤ n → decimalPlacesUpTo (suc k) n ≡ suc (decimalPlacesUpTo k (n / 10))
+unfolding decimalPlacesUpTo
+decimal-places-more k n h = rw (le-ltb n 10 h)
 
--- ---- a number of w + 1 places is below ten to the w + 1, and not below ten to the w, if it is not 0
+-- ---- a number of w + 1 decimal places is below ten to the w + 1, and not below ten to the w, if it is not 0
 pub record Sized (p n : ℕ) : Type 0 where
   pub last : ℕ
   pub is : p ≡ suc last
   pub below : n < ten p
   pub least : 1 ≤ n → ten last ≤ n
 
-pub sized : (k n : ℕ) → n < ten (suc k) → Sized (placesUpTo k n) n
-unfolding placesUpTo
+pub sized : (k n : ℕ) → n < ten (suc k) → Sized (decimalPlacesUpTo k n) n
+unfolding decimalPlacesUpTo
 sized zero n h = record { last = 0; is = refl; below = h; least = λ g. g }
 sized (suc k) n h = go (ltb n 10) refl (sized k (n / 10) (omega arith))
   where
-    go : (t : Bool) → ltb n 10 ≡ t → Sized (placesUpTo k (n / 10)) (n / 10) → Sized (cond t 1 (suc (placesUpTo k (n / 10)))) n
+    go : (t : Bool) → ltb n 10 ≡ t → Sized (decimalPlacesUpTo k (n / 10)) (n / 10) → Sized (cond t 1 (suc (decimalPlacesUpTo k (n / 10)))) n
     go true e tenth = record { last = 0; is = refl; below = ltb-true n 10 e; least = λ g. g }
     go false e tenth =
         let large = ltb-false n 10 e in
         record {
-          last = placesUpTo k (n / 10);
+          last = decimalPlacesUpTo k (n / 10);
           is = refl;
           below = omega (arith, tenth .below);
           least = λ g. rw (tenth .is) (omega (arith, tenth .least (omega arith)));
         }
 
 -- a number of 64 bits
-pub sized-decimal : (n : ℕ) → n < 2 ^ 64 → Sized (places n) n
+pub sized-decimal : (n : ℕ) → n < 2 ^ 64 → Sized (decimalPlaces n) n
 sized-decimal n h = sized 19 n (omega arith)
 
--- so many places, and no more
-pub places-at-most : (k w n : ℕ) → n < ten (suc w) → placesUpTo k n ≤ suc w
-places-at-most k zero n h = omega (arith, places-one k n h)
-places-at-most zero (suc w) n h = omega (arith, places-zero n)
-places-at-most (suc k) (suc w) n h = go (ltb n 10) refl (places-at-most k w (n / 10) (omega arith))
+-- so many decimal places, and no more
+pub decimal-places-within : (k n : ℕ) → decimalPlacesUpTo k n ≤ suc k
+unfolding decimalPlacesUpTo
+decimal-places-within zero n = omega arith
+decimal-places-within (suc k) n = go (ltb n 10) (decimal-places-within k (n / 10))
   where
-    go : (t : Bool) → ltb n 10 ≡ t → placesUpTo k (n / 10) ≤ suc w → placesUpTo (suc k) n ≤ suc (suc w)
-    go true e tenth = omega (arith, places-one (suc k) n (ltb-true n 10 e))
-    go false e tenth = omega (arith, places-more k n (ltb-false n 10 e))
+    go : (t : Bool) → decimalPlacesUpTo k (n / 10) ≤ suc k → cond t 1 (suc (decimalPlacesUpTo k (n / 10))) ≤ suc (suc k)
+    go true h = omega arith
+    go false h = omega arith
 
-pub places-are : (k w n : ℕ) → w ≤ k → n < ten (suc w) → (1 ≤ w → ten w ≤ n) → placesUpTo k n ≡ suc w
-places-are k zero n l h g = places-one k n h
-places-are zero (suc w) n l h g = absurd (omega arith)
-places-are (suc k) (suc w) n l h g =
+pub decimal-places-at-most : (k w n : ℕ) → n < ten (suc w) → decimalPlacesUpTo k n ≤ suc w
+decimal-places-at-most k zero n h = omega (arith, decimal-places-one k n h)
+decimal-places-at-most zero (suc w) n h = omega (arith, decimal-places-zero n)
+decimal-places-at-most (suc k) (suc w) n h = go (ltb n 10) refl (decimal-places-at-most k w (n / 10) (omega arith))
+  where
+    go : (t : Bool) → ltb n 10 ≡ t → decimalPlacesUpTo k (n / 10) ≤ suc w → decimalPlacesUpTo (suc k) n ≤ suc (suc w)
+    go true e tenth = omega (arith, decimal-places-one (suc k) n (ltb-true n 10 e))
+    go false e tenth = omega (arith, decimal-places-more k n (ltb-false n 10 e))
+
+pub decimal-places-are : (k w n : ℕ) → w ≤ k → n < ten (suc w) → (1 ≤ w → ten w ≤ n) → decimalPlacesUpTo k n ≡ suc w
+decimal-places-are k zero n l h g = decimal-places-one k n h
+decimal-places-are zero (suc w) n l h g = absurd (omega arith)
+decimal-places-are (suc k) (suc w) n l h g =
     let low : ten (suc w) ≤ n = g (omega arith) in
     let one : 1 ≤ ten w = ten-grows 0 w (omega arith) in
-    places-more k n (omega arith) ∙ ap suc (places-are k w (n / 10) (omega arith) (omega arith) (λ s. omega arith))
+    decimal-places-more k n (omega arith) ∙ ap suc (decimal-places-are k w (n / 10) (omega arith) (omega arith) (λ s. omega arith))
 
 -- ---- written in decimal, and read
 pub decimal-read : (n : ℕ) → n < 2 ^ 64 → numberOf (decimal n) ≡ n
-decimal-read n h = number-digits (places n) n (sized-decimal n h .below)
+decimal-read n h = number-digits (decimalPlaces n) n (sized-decimal n h .below)
 
 -- ---- digits without a leading zero are the decimal writing of their number
 -- the first digit counts ten to the others
@@ -101,8 +110,8 @@ unfolding every
 decimal-written d s short good first =
     let n : ℕ = numberOf (d ∷ s) in
     let digit = digit-bounds d (and-eq-true-iff (isDigit d) (allDigits s) .0 good .0) in
-    let size : places n ≡ suc (length s) =
-    places-are 19 (length s) n short (number-below (suc (length s)) (d ∷ s) refl good) (λ l. number-large d s (omega (arith, ne-lt d digit (first l)))) in
+    let size : decimalPlaces n ≡ suc (length s) =
+    decimal-places-are 19 (length s) n short (number-below (suc (length s)) (d ∷ s) refl good) (λ l. number-large d s (omega (arith, ne-lt d digit (first l)))) in
     rw size (digits-number (suc (length s)) (d ∷ s) refl good)
   where
     ne-lt : (d : ℕ) → (48 ≤ d) × (d ≤ 57) → (d ≡ 48 → ⊥) → 49 ≤ d
@@ -120,7 +129,7 @@ number-small w (d ∷ s) long good e =
 pub decimal-first : (n : ℕ) → n < 2 ^ 64 → 10 ≤ n → getD (decimal n) 0 0 ≡ 48 → ⊥
 decimal-first n h l e =
     let size = sized-decimal n h in
-    let small = number-small (size .last) (decimal n) (length-digits (places n) n ∙ size .is) (digits-all (places n) n) e in
+    let small = number-small (size .last) (decimal n) (length-digits (decimalPlaces n) n ∙ size .is) (digits-all (decimalPlaces n) n) e in
     omega (arith, decimal-read n h, size .least (omega arith))
 
 -- ---- the last w digits of a number are those of what is left by ten to the w

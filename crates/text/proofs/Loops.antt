@@ -7,14 +7,17 @@ use lib.Dec.{eqb}
 use mathlib.Core.List.{List, [], _∷_, _++_, append-assoc, append-nil}
 use native.Mathlib.Numerals.{add-one}
 use native.Mathlib.Omega.{arith}
-use borrow.Author.Tests.{eq-eqb, ne-eqb, le-ltb, not-true, not-false}
+use borrow.Author.Tests.{eq-eqb, ne-eqb, not-true, not-false}
+use mir.Syntax.{w64}
+use mir.Val.{Fits}
 use lib.ListN.{length, getD, take, drop, set, replicate, length-take, length-set}
 use lib.Seq.{getD-take, drop-set-lt, getD-set-same, drop-length}
 use Rattle.text.specs.Bytes.{every, isBlank, run}
 use Rattle.text.specs.Lists.{sameBytes}
-use Rattle.text.specs.Numbers.{numberAfter, digits, placesUpTo}
+use Rattle.text.specs.Numbers.{numberAfter, digits, decimalPlacesUpTo}
 use Rattle.text.proofs.Lists.{step, ended}
-use Rattle.text.proofs.Decimals.{places-one}
+use Rattle.text.proofs.Numbers.{ten, ten-grows}
+use Rattle.text.proofs.Decimals.{decimal-places-one, decimal-places-more}
 
 -- ---- a test at each byte
 module _ (test : ℕ → Bool) (s : List ℕ) (i : ℕ) (r : Bool) (known : every test (drop i s) ≡ r) where
@@ -31,6 +34,14 @@ module _ (test : ℕ → Bool) (s : List ℕ) (i : ℕ) (r : Bool) (known : ever
   every-ends h = rw (ended s i h) at known
 
 -- ---- the number that the first k digits write
+-- with fewer than 16 of them read, one more fits into 64 bits
+module _ (n i : ℕ) (known : 9 * n + 207 ≤ 207 * ten i) (most : i ≤ 16) (more : i ≡ 16 → ⊥) where
+  pub tenfold-fits : Fits w64 (n * 10)
+  tenfold-fits = record { fits = omega (arith, ten-grows i 15 (omega arith)) }
+
+  pub digit-fits : (v : ℕ) → v < 208 → Fits w64 (n * 10 + v)
+  digit-fits v h = record { fits = omega (arith, ten-grows i 15 (omega arith)) }
+
 module _ (k : ℕ) (s : List ℕ) (i n r : ℕ) (known : numberAfter n (drop i (take k s)) ≡ r) where
   pub number-on : (v : ℕ) → i < length s → i ≤ k → (i ≡ k → ⊥) → v ≡ getD s i 0 - 48 → numberAfter (n * 10 + v) (drop (i + 1) (take k s)) ≡ r
   unfolding numberAfter
@@ -93,24 +104,20 @@ module _ (test : ℕ → Bool) (s : List ℕ) (i r : ℕ) (known : i + run test 
       let here : run test (drop i s) ≡ 0 = rw (ended s i h) in
       omega arith
 
--- ---- how many places a number has
-places-step : (k n : ℕ) → 10 ≤ n → placesUpTo (suc k) n ≡ suc (placesUpTo k (n / 10))
-unfolding placesUpTo
-places-step k n h = rw (le-ltb n 10 h)
+-- ---- how many decimal places a number has
+-- c decimal places seen, at most k to come
+module _ (c k n r : ℕ) (known : c + decimalPlacesUpTo k n ≡ r + 1) where
+  pub decimal-places-stop : n < 10 → c ≡ r
+  decimal-places-stop h = omega (arith, decimal-places-one k n h)
 
--- c places seen, at most k to come
-module _ (c k n r : ℕ) (known : c + placesUpTo k n ≡ r + 1) where
-  pub places-stop : n < 10 → c ≡ r
-  places-stop h = omega (arith, places-one k n h)
-
-pub places-on : (c n r : ℕ) → c < 20 → c + placesUpTo (20 - c) n ≡ r + 1 → 10 ≤ n → c + 1 + placesUpTo (20 - (c + 1)) (n / 10) ≡ r + 1
-places-on c n r l known h =
+pub decimal-places-on : (c n r : ℕ) → c < 20 → c + decimalPlacesUpTo (20 - c) n ≡ r + 1 → 10 ≤ n → c + 1 + decimalPlacesUpTo (20 - (c + 1)) (n / 10) ≡ r + 1
+decimal-places-on c n r l known h =
     let e : 20 - c ≡ suc (20 - (c + 1)) = omega arith in
-    omega (arith, rw e at known, places-step (20 - (c + 1)) n h)
+    omega (arith, rw e at known, decimal-places-more (20 - (c + 1)) n h)
 
-pub places-last : (c n r : ℕ) → c ≡ 20 → c + placesUpTo (20 - c) n ≡ r + 1 → c ≡ r
-unfolding placesUpTo
-places-last c n r e known = omega (arith, rw e at known)
+pub decimal-places-last : (c n r : ℕ) → c ≡ 20 → c + decimalPlacesUpTo (20 - c) n ≡ r + 1 → c ≡ r
+unfolding decimalPlacesUpTo
+decimal-places-last c n r e known = omega (arith, rw e at known)
 
 -- ---- one byte in every place
 pub filled-all : (b : ℕ) (s : List ℕ) (i : ℕ) → length s ≤ i → i ≤ length s → replicate i b ++ drop i s ≡ replicate (length s) b

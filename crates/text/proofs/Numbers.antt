@@ -7,13 +7,14 @@ use mathlib.Core.List.{List, [], _∷_, _++_, append-assoc, append-nil}
 use native.Mathlib.Nat.{pow-succ', add-zero, add-suc, mul-left-comm}
 use native.Mathlib.Omega.{arith}
 use borrow.Author.Tests.{leb-true, le-leb}
+use borrow.Rule.Slice.PartMut.{putMid, mid-len}
 use lib.Dec.{leb}
-use lib.ListN.{length, getD, take, length-append, length-take}
+use lib.ListN.{length, getD, take, drop, length-append, length-take}
 use lib.Seq.{take-all, take-suc, length-take-le}
 use Rattle.text.specs.Bytes.{isDigit, every, allDigits}
-use Rattle.text.specs.Lists.{part}
+use Rattle.text.specs.Lists.{part, overlay}
 use Rattle.text.specs.Numbers.{numberAfter, numberOf, numberOfFirst, digits}
-use Rattle.text.proofs.Lists.{spelled}
+use Rattle.text.proofs.Lists.{spelled, put-is}
 
 -- ten to the k, in a form that `omega` reads
 abbrev pub ten : ℕ → ℕ
@@ -128,3 +129,11 @@ module _ (k c : ℕ) where
       let last : (c * (10 * ten w) + n) % 10 ≡ n % 10 = omega arith in
       rw (add-suc k w, front, last, digits-beside w (n / 10) (omega arith))
       (append-assoc (digits k c) (digits w (n / 10)) ((48 + n % 10) ∷ []))
+
+-- ---- digits put where they are to stand
+pub digits-put : (s t : List ℕ) (a w n : ℕ) → a + w ≤ length s → t ≡ digits (length (take (a + w - a) (drop a s))) n
+    → putMid a (a + w - a) s t ≡ overlay s a (digits w n)
+digits-put s t a w n h e =
+    let wide : length (take (a + w - a) (drop a s)) ≡ w = mid-len a (a + w) s h ∙ omega arith in
+    let text : t ≡ digits w n = e ∙ ap (λ (k : ℕ). digits k n) wide in
+    put-is a (a + w) s t (omega arith) h ∙ rw (text, length-digits w n)

@@ -2,7 +2,7 @@
 -- Assumes nothing.
 use Prim.Native.Nat.{ℕ, zero, suc, _+_, _-_, _*_, _^_, _≤_, _<_}
 use mathlib.Core.Path.{_≡_, refl, sym, ap, _∙_}
-use mathlib.Core.Bool.{Bool, true, false, not, _&&_}
+use mathlib.Core.Bool.{Bool, true, false, not, _&&_, and-eq-true-iff}
 use mathlib.Core.List.{List, [], _∷_}
 use native.Mathlib.Numerals.{add-one}
 use native.Mathlib.Omega.{arith}
@@ -14,6 +14,7 @@ use lib.ListN.{length, getD, take, drop, replicate, length-drop}
 use lib.Seq.{drop-drop, take-all, getD-drop, drop-length}
 use Rattle.text.specs.Bytes.{every, isBlank}
 use Rattle.text.specs.Words.{lowFirst, wordOf}
+use Rattle.text.proofs.Booleans.{clash}
 use Rattle.text.proofs.Lists.{step}
 
 -- ---- a test at each byte, k bytes at once
@@ -36,6 +37,29 @@ module _ (test : ℕ → Bool) (s : List ℕ) (i k : ℕ) (r b : Bool) (known : 
 
   pub chunk-on : not b ≡ false → every test (drop (i + k) s) ≡ r
   chunk-on n = rw (not-false b n) at cut
+
+-- a test passed by all passes behind any place
+pub every-behind : (test : ℕ → Bool) (k : ℕ) (s : List ℕ) → every test s ≡ true → every test (drop k s) ≡ true
+every-behind test k s h = and-eq-true-iff (every test (take k s)) (every test (drop k s)) .0 (sym (every-split test k s) ∙ h) .1
+
+-- where fewer than eight are left, the last eight tell
+pub last-eight : (test : ℕ → Bool) (s : List ℕ) (i : ℕ) (b : Bool) → i ≤ length s → every test (drop i s) ≡ every test s → length s - i < 8 → 8 ≤ length s
+    → b ≡ every test (take 8 (drop (length s - 8) s)) → b ≡ every test s
+last-eight test s i b within known few long eb = go (every test (drop (length s - 8) s)) refl (every test s) refl
+  where
+    all : take 8 (drop (length s - 8) s) ≡ drop (length s - 8) s
+    all = take-all 8 (drop (length s - 8) s) (rw length-drop (omega arith))
+
+    there : b ≡ every test (drop (length s - 8) s)
+    there = eb ∙ ap (every test) all
+
+    back : drop (i - (length s - 8)) (drop (length s - 8) s) ≡ drop i s
+    back = let sum : length s - 8 + (i - (length s - 8)) ≡ i = omega arith in drop-drop (i - (length s - 8)) (length s - 8) s ∙ rw sum
+
+    go : (t : Bool) → every test (drop (length s - 8) s) ≡ t → (u : Bool) → every test s ≡ u → b ≡ every test s
+    go true et u eu = there ∙ et ∙ sym (sym known ∙ ap (every test) (sym back) ∙ every-behind test (i - (length s - 8)) (drop (length s - 8) s) et)
+    go false et true eu = absurd (clash (every-behind test (length s - 8) s eu) et)
+    go false et false eu = there ∙ et ∙ sym eu
 
 -- ---- bytes as one number
 pub low-byte : (b c x y : ℕ) → b < 256 → c < 256 → eqb (b + 256 * x) (c + 256 * y) ≡ (eqb b c && eqb x y)
@@ -142,10 +166,3 @@ unfolding lowFirst
 blank8-is s i w ew h each =
     rw (ew .0, take-all (length s - i) (drop i s) (simp length-drop (omega arith)))
     (blank-told 8 (drop i s) (simp length-drop (omega arith)) (bytes-behind s i each))
-
-pub blank4-is : (s : List ℕ) (i a b c d : ℕ) → (a ≡ getD s i 0) × (a < 256) → (b ≡ getD s (i + 1) 0) × (b < 256) → (c ≡ getD s (i + 2) 0) × (c < 256) → (d ≡ getD s (i + 3) 0) × (d < 256)
-    → i + 4 ≤ length s → AreBytes s → eqb (a + b * 256 + c * 65536 + d * 16777216) 538976288 ≡ isBlank (take 4 (drop i s))
-unfolding lowFirst
-blank4-is s i a b c d ea eb ec ed h each =
-    let sum : a + b * 256 + c * 65536 + d * 16777216 ≡ lowFirst (take 4 (drop i s)) = omega (arith, low-at s i (i + 1) 3 refl, low-at s (i + 1) (i + 2) 2 (omega arith), low-at s (i + 2) (i + 3) 1 (omega arith), low-at s (i + 3) (i + 4) 0 (omega arith)) in
-    rw sum (blank-told 4 (drop i s) (simp length-drop (omega arith)) (bytes-behind s i each))

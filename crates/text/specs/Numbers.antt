@@ -22,14 +22,14 @@ digits zero n = []
 digits (suc w) n = digits w (n / 10) ++ (48 + n % 10) ∷ []
 
 -- how many decimal places n has: at least 1, at most k + 1
-unfoldable pub placesUpTo : ℕ → ℕ → ℕ
-placesUpTo zero n = 1
-placesUpTo (suc k) n = cond (ltb n 10) 1 (suc (placesUpTo k (n / 10)))
+unfoldable pub decimalPlacesUpTo : ℕ → ℕ → ℕ
+decimalPlacesUpTo zero n = 1
+decimalPlacesUpTo (suc k) n = cond (ltb n 10) 1 (suc (decimalPlacesUpTo k (n / 10)))
 
--- the places of a number of 64 bits: it has at most 20
-abbrev pub places : ℕ → ℕ
-places n = placesUpTo 19 n
+-- of a number of 64 bits, which has at most 20
+abbrev pub decimalPlaces : ℕ → ℕ
+decimalPlaces n = decimalPlacesUpTo 19 n
 
 -- n in decimal, with no leading zero but a lone 0
 abbrev pub decimal : ℕ → List ℕ
-decimal n = digits (places n) n
+decimal n = digits (decimalPlaces n) n

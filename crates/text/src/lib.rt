@@ -6,7 +6,7 @@ ghost use Rattle.text.specs.Promises.{Gives, GivesWithin};
 ghost use Rattle.text.specs.Answers.{orElse};
 ghost use Rattle.text.specs.Bytes.{isDigit, isCapital, allDigits, isBlank, run};
 ghost use Rattle.text.specs.Lists.{sameBytes};
-ghost use Rattle.text.specs.Numbers.{numberOfFirst, digits, places};
+ghost use Rattle.text.specs.Numbers.{numberOfFirst, digits, decimalPlaces};
 ghost use Rattle.text.specs.Words.{wordOf};
 
 // What a call answers: the paper's code and place; 0 and 0 where it accepts.
@@ -103,15 +103,6 @@ fn blank8(s: &[u8], i: usize) -> bool
     word(&s[i..]) == 0x2020_2020_2020_2020
 }
 
-// Four likewise.
-fn blank4(s: &[u8], i: usize) -> bool
-    requires { ⌜ i + 4 ≤ length (now s) ⌝ }
-    ensures { λ r. ⌜ r ≡ isBlank (take 4 (drop i (now (s .entry)))) ⌝ }
-{
-    wide(s[i]) + wide(s[i + 1]) * 0x100 + wide(s[i + 2]) * 0x1_0000 + wide(s[i + 3]) * 0x100_0000
-        == 0x2020_2020
-}
-
 pub fn blank(s: &[u8]) -> bool
     ensures { λ r. ⌜ Gives (isBlank (now (s .entry))) r ⌝ }
 {
@@ -122,11 +113,9 @@ pub fn blank(s: &[u8]) -> bool
         }
         i += 8;
     }
-    while 4 <= s.len() - i {
-        if !blank4(s, i) {
-            return false;
-        }
-        i += 4;
+    // The last eight at once, some of them for the second time, are quicker than those that are left one by one.
+    if 8 <= s.len() {
+        return blank8(s, s.len() - 8);
     }
     while i < s.len() {
         if s[i] != b' ' {
@@ -205,8 +194,8 @@ pub fn put_digits(part: &mut [u8], n: u64)
 }
 
 // As many decimal places as n has.
-pub fn places(n: u64) -> usize
-    ensures { λ r. ⌜ GivesWithin (places n) (λ k. (1 ≤ k) × (k ≤ 20)) r ⌝ }
+pub fn decimal_places(n: u64) -> usize
+    ensures { λ r. ⌜ GivesWithin (decimalPlaces n) (λ k. (1 ≤ k) × (k ≤ 20)) r ⌝ }
 {
     let mut rest = n;
     let mut count: usize = 1;

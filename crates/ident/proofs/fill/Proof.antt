@@ -3,7 +3,7 @@
 use borrow.Author.Needs.{needs}
 use native.Mathlib.Omega.{arith}
 use lib.ListN.{length-set}
-use Rattle.ident.proofs.Writing.{number-small, fill-is}
+use Rattle.ident.proofs.Writing.{posting-of, fill-is}
 use Rattle.ident.proofs.fill.Statement.{statement}
 use Rattle.ident.proofs.fill.Tie as tie
 
@@ -16,18 +16,8 @@ add-n c = search needs
 add-e : tie.Need-add-e
 add-e c = search needs
 
-power-requires : tie.Need-power-requires
-power-requires c κs = search needs
-
-mul-number : tie.Need-mul-number
-mul-number c =
-    let start = c .before .before .before .before .before in
-    record { fits = omega (arith, number-small (start .args .p) (start .pre .1) _ (c .before .before .before .shape-of .ensures) _ (c .before .power .ensures)) }
-
-add-number : tie.Need-add-number
-add-number c =
-    let start = c .before .before .before .before .before .before in
-    record { fits = omega (arith, number-small (start .args .p) (start .pre .1) _ (c .before .before .before .before .shape-of .ensures) _ (c .before .before .power .ensures)) }
+side-by-side-requires : tie.Need-side-by-side-requires
+side-by-side-requires c κs = (search needs, posting-of _ _ (c .before .shape-of .ensures), search needs)
 
 sub-put-digits : tie.Need-sub-put-digits
 sub-put-digits c = search needs
@@ -93,9 +83,7 @@ fill-spec =
     shape-of-requires
     add-n
     add-e
-    power-requires
-    mul-number
-    add-number
+    side-by-side-requires
     sub-put-digits
     part-put-digits-start
     part-put-digits-end

@@ -7,7 +7,7 @@ use mathlib.Core.Path.{_≡_}
 use native.Mathlib.Nat.{zero-add}
 use lib.ListN.{length, drop}
 use Rattle.ident.specs.Identifier.{weights, weighted}
-use Rattle.ident.proofs.Sums.{product-small, sum-on, sum-ends}
+use Rattle.ident.proofs.Sums.{product-fits, sum-fits, sum-small, sum-on, sum-ends}
 use Rattle.ident.proofs.weighted_sum.Statement.{statement}
 use Rattle.ident.proofs.weighted_sum.Tie as tie
 
@@ -36,10 +36,10 @@ digit-value-requires : tie.Need-digit-value-requires Inv-loop μ-loop
 digit-value-requires c κs = search needs
 
 mul-sum-2 : tie.Need-mul-sum-2 Inv-loop μ-loop
-mul-sum-2 c = omega (arith, product-small (c .before .before .before .before .before .args .skip) (c .before .before .loop-test .taken) (c .before .before .before .before .before .pre) (c .digit-value .ensures .1))
+mul-sum-2 c = search product-fits
 
 add-sum-2 : tie.Need-add-sum-2 Inv-loop μ-loop
-add-sum-2 c = omega (arith, product-small (c .before .before .before .before .before .args .skip) (c .before .before .loop-test .taken) (c .before .before .before .before .before .pre) (c .digit-value .ensures .1))
+add-sum-2 c = search sum-fits
 
 add-i : tie.Need-add-i Inv-loop μ-loop
 add-i c = search needs
@@ -50,7 +50,7 @@ loop-less c = search needs
 loop-again : tie.Need-loop-again Inv-loop μ-loop
 loop-again c = (
   omega arith,
-  omega (arith, product-small (c .before .before .before .before .before .args .skip) (c .before .before .loop-test .taken) (c .before .before .before .before .before .pre) (c .digit-value .ensures .1)),
+  search sum-small,
   search sum-on,
 )
 

@@ -2,7 +2,7 @@
 -- Assumes nothing.
 use borrow.Author.Needs.{needs}
 use native.Mathlib.Omega.{arith}
-use Rattle.index.proofs.Ways.{put-inside, put-keyless, put-full, put-large, put-noted}
+use Rattle.index.proofs.Ways.{put-inside, put-keyless, put-full, put-noted}
 use Rattle.index.proofs.put.Statement.{statement}
 use Rattle.index.proofs.put.Tie as tie
 
@@ -48,30 +48,14 @@ slice-read-named c = search needs
 named-requires : tie.Need-named-requires
 named-requires c κs = search needs
 
+note-requires : tie.Need-note-requires
+note-requires c κs = search needs
+
 same-length-2 : tie.Need-same-length-2
 same-length-2 c = search needs
 
 returns-3 : tie.Need-returns-3
-returns-3 c =
-    put-large _ _ _ _ _ (c .before .before .before .before .before .before .before .before .has-key .ensures) (c .before .before .before .before .before .before .before .if1 .left) _ (c .before .before .before .before .slot-of .ensures) _ (c .before .named .ensures) (c .if3 .taken)
-
-add-table : tie.Need-add-table
-add-table c = search needs
-
-cast-table : tie.Need-cast-table
-cast-table c = search needs
-
-mul-table : tie.Need-mul-table
-mul-table c = search needs
-
-slice-write-table : tie.Need-slice-write-table
-slice-write-table c = search needs
-
-same-length-3 : tie.Need-same-length-3
-same-length-3 c = search needs
-
-returns-4 : tie.Need-returns-4
-returns-4 c = search put-noted
+returns-3 c = search put-noted
 
 pub put-spec : {M : Type 1} → statement M
 put-spec =
@@ -91,11 +75,6 @@ put-spec =
     mul-named
     slice-read-named
     named-requires
+    note-requires
     same-length-2
-    returns-3
-    add-table
-    cast-table
-    mul-table
-    slice-write-table
-    same-length-3
-    returns-4)
+    returns-3)

@@ -22,7 +22,7 @@ shared-slice-read-ended-2 : tie.Need-shared-slice-read-ended-2
 shared-slice-read-ended-2 c = search needs
 
 returns : tie.Need-returns
-returns c = (search line-open, λ z. absurd (omega arith))
+returns c = record { answers = search line-open; notes = λ z. absurd (omega arith) }
 
 sub-check : tie.Need-sub-check
 sub-check c = search needs
@@ -37,7 +37,7 @@ check-requires : tie.Need-check-requires
 check-requires c κs = search needs
 
 returns-2 : tie.Need-returns-2
-returns-2 c = (search line-breaks, λ z. absurd (c .if2 .taken z))
+returns-2 c = record { answers = search line-breaks; notes = λ z. absurd (c .if2 .taken z) }
 
 repeated-requires : tie.Need-repeated-requires
 repeated-requires c κs = search needs
@@ -46,13 +46,13 @@ same-length : tie.Need-same-length
 same-length c = search needs
 
 returns-3 : tie.Need-returns-3
-returns-3 c = (search line-repeats, λ z. c .before .before .before .repeated .ensures .1)
+returns-3 c = record { answers = search line-repeats; notes = λ z. c .before .before .before .repeated .ensures .1 }
 
 same-length-2 : tie.Need-same-length-2
 same-length-2 c = search needs
 
 returns-4 : tie.Need-returns-4
-returns-4 c = (search line-passes, λ z. c .before .before .before .repeated .ensures .1)
+returns-4 c = record { answers = search line-passes; notes = λ z. c .before .before .before .repeated .ensures .1 }
 
 pub line-answer-spec : {M : Type 1} → statement M
 line-answer-spec =

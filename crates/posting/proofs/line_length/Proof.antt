@@ -19,14 +19,14 @@ abbrev μ-loop : tie.MeasureT-loop
 loop-holds : tie.Need-loop-holds Inv-loop μ-loop
 loop-holds c = (omega arith, omega arith, omega arith)
 
-mul-places : tie.Need-mul-places Inv-loop μ-loop
-mul-places c = search needs
+mul-decimal-places : tie.Need-mul-decimal-places Inv-loop μ-loop
+mul-decimal-places c = search needs
 
-shared-slice-read-places : tie.Need-shared-slice-read-places Inv-loop μ-loop
-shared-slice-read-places c = search needs
+shared-slice-read-decimal-places : tie.Need-shared-slice-read-decimal-places Inv-loop μ-loop
+shared-slice-read-decimal-places c = search needs
 
-places-requires : tie.Need-places-requires Inv-loop μ-loop
-places-requires c κs = search needs
+decimal-places-requires : tie.Need-decimal-places-requires Inv-loop μ-loop
+decimal-places-requires c κs = search needs
 
 add-count : tie.Need-add-count Inv-loop μ-loop
 add-count c = search needs
@@ -53,9 +53,9 @@ line-length-spec =
     Inv-loop
     μ-loop
     loop-holds
-    mul-places
-    shared-slice-read-places
-    places-requires
+    mul-decimal-places
+    shared-slice-read-decimal-places
+    decimal-places-requires
     add-count
     add-count-2
     add-i

@@ -6,8 +6,8 @@ use Rattle.posting.proofs.ReportWays.{number-put}
 use Rattle.posting.proofs.put_number.Statement.{statement}
 use Rattle.posting.proofs.put_number.Tie as tie
 
-places-requires : tie.Need-places-requires
-places-requires c κs = search needs
+decimal-places-requires : tie.Need-decimal-places-requires
+decimal-places-requires c κs = search needs
 
 add-e : tie.Need-add-e
 add-e c = search needs
@@ -40,7 +40,7 @@ pub put-number-spec : {M : Type 1} → statement M
 put-number-spec =
     tie.close
     (tie.spec
-    places-requires
+    decimal-places-requires
     add-e
     sub-put-digits
     part-put-digits-start

@@ -5,9 +5,6 @@ use Rattle.record.proofs.Ways.{record-judged}
 use Rattle.record.proofs.judged.Statement.{statement}
 use Rattle.record.proofs.judged.Tie as tie
 
-read-when-requires : tie.Need-read-when-requires
-read-when-requires c κs = search needs
-
 read-address-requires : tie.Need-read-address-requires
 read-address-requires c κs = search needs
 
@@ -22,9 +19,6 @@ read-marks-requires c κs = search needs
 
 read-piece-requires : tie.Need-read-piece-requires
 read-piece-requires c κs = search needs
-
-read-tail-requires : tie.Need-read-tail-requires
-read-tail-requires c κs = search needs
 
 form-answer-requires : tie.Need-form-answer-requires
 form-answer-requires c κs = search needs
@@ -42,13 +36,11 @@ pub judged-spec : {M : Type 1} → statement M
 judged-spec =
     tie.close
     (tie.spec
-    read-when-requires
     read-address-requires
     read-contact-requires
     read-goods-requires
     read-marks-requires
     read-piece-requires
-    read-tail-requires
     form-answer-requires
     content-answer-requires
     or-else-requires

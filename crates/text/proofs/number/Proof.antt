@@ -7,8 +7,8 @@ use Prim.Native.Nat.{_+_, _-_, _*_, _≤_}
 use native.Mathlib.Numerals.{add-one}
 use lib.ListN.{length, drop, take}
 use Rattle.text.specs.Numbers.{numberAfter, numberOf}
-use Rattle.text.proofs.Numbers.{ten, ten-grows}
-use Rattle.text.proofs.Loops.{number-on, number-full, number-ends}
+use Rattle.text.proofs.Numbers.{ten}
+use Rattle.text.proofs.Loops.{tenfold-fits, digit-fits, number-on, number-full, number-ends}
 use Rattle.text.proofs.number.Statement.{statement}
 use Rattle.text.proofs.number.Tie as tie
 
@@ -25,7 +25,7 @@ returns : tie.Need-returns Inv-loop μ-loop
 returns c = search number-full
 
 mul-n : tie.Need-mul-n Inv-loop μ-loop
-mul-n c = let l = c .before .before .loop in omega (arith, ten-grows (l .i) 15 (omega arith))
+mul-n c = search tenfold-fits
 
 shared-slice-read-digit-value : tie.Need-shared-slice-read-digit-value Inv-loop μ-loop
 shared-slice-read-digit-value c = search needs
@@ -34,7 +34,7 @@ digit-value-requires : tie.Need-digit-value-requires Inv-loop μ-loop
 digit-value-requires c κs = search needs
 
 add-n : tie.Need-add-n Inv-loop μ-loop
-add-n c = let l = c .before .before .before .before .loop in omega (arith, ten-grows (l .i) 15 (omega arith))
+add-n c = search digit-fits
 
 add-i : tie.Need-add-i Inv-loop μ-loop
 add-i c = search needs

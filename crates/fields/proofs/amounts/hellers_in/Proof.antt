@@ -2,7 +2,7 @@
 -- Assumes nothing.
 use borrow.Author.Needs.{needs}
 use native.Mathlib.Omega.{arith}
-use Rattle.fields.proofs.AmountWays.{nine-digits, crowns-small, places-small, hellers-are}
+use Rattle.fields.proofs.AmountWays.{nine-digits, crowns-fit, hellers-fit, hellers-are}
 use Rattle.fields.proofs.amounts.hellers_in.Statement.{statement}
 use Rattle.fields.proofs.amounts.hellers_in.Tie as tie
 
@@ -25,9 +25,7 @@ number-requires : tie.Need-number-requires
 number-requires c κs = search needs
 
 mul-result : tie.Need-mul-result
-mul-result c =
-    let s = c .before .before .before in
-    omega (arith, crowns-small (s .args .f .now) (s .args .crowns) (s .pre) (c .number .result) (c .number .ensures))
+mul-result c = search crowns-fit
 
 sub-number-2 : tie.Need-sub-number-2
 sub-number-2 c = search needs
@@ -44,9 +42,7 @@ number-requires-2 : tie.Need-number-requires-2
 number-requires-2 c κs = search needs
 
 add-result : tie.Need-add-result
-add-result c =
-    let s = c .before .before .before .before .before in
-    omega (arith, crowns-small (s .args .f .now) (s .args .crowns) (s .pre) (c .before .before .number .result) (c .before .before .number .ensures), places-small (s .args .f .now) (s .args .crowns) (s .pre) (c .number2 .result) (c .number2 .ensures))
+add-result c = search hellers-fit
 
 returns : tie.Need-returns
 returns c = search hellers-are

@@ -1,7 +1,7 @@
 -- `fields::amounts::put_digits_at` meets its contract.
 -- Assumes nothing.
 use borrow.Author.Needs.{needs}
-use Rattle.fields.proofs.AmountWays.{overlay-put}
+use Rattle.text.proofs.Numbers.{digits-put}
 use Rattle.fields.proofs.amounts.put_digits_at.Statement.{statement}
 use Rattle.fields.proofs.amounts.put_digits_at.Tie as tie
 
@@ -24,7 +24,7 @@ same-length : tie.Need-same-length
 same-length c = search needs
 
 returns : tie.Need-returns
-returns c = search overlay-put
+returns c = search digits-put
 
 pub put-digits-at-spec : {M : Type 1} → statement M
 put-digits-at-spec =

@@ -2,7 +2,7 @@
 -- Assumes nothing.
 use borrow.Author.Needs.{needs}
 use Rattle.fields.proofs.Frames.{frame-wide, frame-blank}
-use Rattle.fields.proofs.AmountWays.{money-reads, money-value, money-bad}
+use Rattle.fields.proofs.AmountWays.{money-good, money-value, money-bad}
 use Rattle.fields.proofs.amounts.read_money.Statement.{statement}
 use Rattle.fields.proofs.amounts.read_money.Tie as tie
 
@@ -22,9 +22,7 @@ has-money-form-requires : tie.Need-has-money-form-requires
 has-money-form-requires c κs = search needs
 
 hellers-in-requires : tie.Need-hellers-in-requires
-hellers-in-requires c κs =
-    money-reads (c .before .before .before .before .before .before .before .args .f .now) (c .before .before .leading-digits .result) (c .before .has-money-form .result)
-    (c .before .before .before .before .before .if1 .left) (c .before .before .leading-digits .ensures) (c .before .has-money-form .ensures) (c .if3 .taken)
+hellers-in-requires c κs = (search needs, search needs, search money-good)
 
 returns-3 : tie.Need-returns-3
 returns-3 c = search money-value

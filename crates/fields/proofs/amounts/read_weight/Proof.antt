@@ -1,10 +1,8 @@
 -- `fields::amounts::read_weight` meets its contract.
 -- Assumes nothing.
 use borrow.Author.Needs.{needs}
-use native.Mathlib.Omega.{arith}
-use mathlib.Core.Path.{sym, _∙_}
 use Rattle.fields.proofs.Frames.{frame-wide, frame-blank}
-use Rattle.fields.proofs.AmountWays.{weight-fits, weight-value, weight-bad}
+use Rattle.fields.proofs.AmountWays.{weight-value, weight-bad, kilos-fit, grams-fit}
 use Rattle.fields.proofs.amounts.read_weight.Statement.{statement}
 use Rattle.fields.proofs.amounts.read_weight.Tie as tie
 
@@ -33,9 +31,7 @@ number-requires : tie.Need-number-requires
 number-requires c κs = search needs
 
 mul-t12 : tie.Need-mul-t12
-mul-t12 c =
-    let s = c .before .before .before .before .before .before .before .before .args .f .now in
-    record { fits = omega (arith, weight-fits s (c .before .before .before .before .before .before .if1 .left) (sym (c .before .before .before .has-weight-form .ensures) ∙ c .before .before .if3 .taken), c .number .ensures) }
+mul-t12 c = search kilos-fit
 
 sub-number-2 : tie.Need-sub-number-2
 sub-number-2 c = search needs
@@ -50,9 +46,7 @@ number-requires-2 : tie.Need-number-requires-2
 number-requires-2 c κs = search needs
 
 add-t17 : tie.Need-add-t17
-add-t17 c =
-    let s = c .before .before .before .before .before .before .before .before .before .before .args .f .now in
-    record { fits = omega (arith, weight-fits s (c .before .before .before .before .before .before .before .before .if1 .left) (sym (c .before .before .before .before .before .has-weight-form .ensures) ∙ c .before .before .before .before .if3 .taken), c .before .before .number .ensures, c .number2 .ensures) }
+add-t17 c = search grams-fit
 
 returns-3 : tie.Need-returns-3
 returns-3 c = search weight-value

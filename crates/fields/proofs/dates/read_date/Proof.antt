@@ -1,8 +1,7 @@
 -- `fields::dates::read_date` meets its contract.
 -- Assumes nothing.
 use borrow.Author.Needs.{needs}
-use native.Mathlib.Omega.{arith}
-use Rattle.fields.proofs.Ways.{date-wide, date-small, date-value, date-bad}
+use Rattle.fields.proofs.Ways.{date-wide, date-value, date-bad, year-fits, month-fits, year-month-fits, date-fits}
 use Rattle.fields.proofs.dates.read_date.Statement.{statement}
 use Rattle.fields.proofs.dates.read_date.Tie as tie
 
@@ -52,24 +51,16 @@ real-date-requires : tie.Need-real-date-requires
 real-date-requires c κs = search needs
 
 mul-t19 : tie.Need-mul-t19
-mul-t19 c =
-    let s = date-small (c .before .before .before .before .before .before .before .number .result) (c .before .before .before .before .before .number2 .result) (c .before .before .before .number3 .result) (c .before .before .all-digits .result) (c .before .real-date .result) (c .before .real-date .ensures) (c .if2 .taken) in
-    record { fits = omega arith }
+mul-t19 c = search year-fits
 
 mul-t20 : tie.Need-mul-t20
-mul-t20 c =
-    let s = date-small (c .before .before .before .before .before .before .before .number .result) (c .before .before .before .before .before .number2 .result) (c .before .before .before .number3 .result) (c .before .before .all-digits .result) (c .before .real-date .result) (c .before .real-date .ensures) (c .if2 .taken) in
-    record { fits = omega arith }
+mul-t20 c = search month-fits
 
 add-t21 : tie.Need-add-t21
-add-t21 c =
-    let s = date-small (c .before .before .before .before .before .before .before .number .result) (c .before .before .before .before .before .number2 .result) (c .before .before .before .number3 .result) (c .before .before .all-digits .result) (c .before .real-date .result) (c .before .real-date .ensures) (c .if2 .taken) in
-    record { fits = omega arith }
+add-t21 c = search year-month-fits
 
 add-t22 : tie.Need-add-t22
-add-t22 c =
-    let s = date-small (c .before .before .before .before .before .before .before .number .result) (c .before .before .before .before .before .number2 .result) (c .before .before .before .number3 .result) (c .before .before .all-digits .result) (c .before .real-date .result) (c .before .real-date .ensures) (c .if2 .taken) in
-    record { fits = omega arith }
+add-t22 c = search date-fits
 
 returns-2 : tie.Need-returns-2
 returns-2 c = search date-value

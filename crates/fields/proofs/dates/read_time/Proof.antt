@@ -1,8 +1,7 @@
 -- `fields::dates::read_time` meets its contract.
 -- Assumes nothing.
 use borrow.Author.Needs.{needs}
-use native.Mathlib.Omega.{arith}
-use Rattle.fields.proofs.Ways.{time-wide, time-small, time-value, time-bad}
+use Rattle.fields.proofs.Ways.{time-wide, time-value, time-bad, hours-fit, minutes-fit, hours-minutes-fit, time-fits}
 use Rattle.fields.proofs.dates.read_time.Statement.{statement}
 use Rattle.fields.proofs.dates.read_time.Tie as tie
 
@@ -49,24 +48,16 @@ has-time-form-requires : tie.Need-has-time-form-requires
 has-time-form-requires c κs = search needs
 
 mul-t23 : tie.Need-mul-t23
-mul-t23 c =
-    let s = time-small (c .before .before .before .before .before .before .number .result) (c .before .before .before .before .number2 .result) (c .before .before .number3 .result) (c .before .has-time-form .result) (c .if2 .taken) in
-    record { fits = omega arith }
+mul-t23 c = search hours-fit
 
 mul-t24 : tie.Need-mul-t24
-mul-t24 c =
-    let s = time-small (c .before .before .before .before .before .before .number .result) (c .before .before .before .before .number2 .result) (c .before .before .number3 .result) (c .before .has-time-form .result) (c .if2 .taken) in
-    record { fits = omega arith }
+mul-t24 c = search minutes-fit
 
 add-t25 : tie.Need-add-t25
-add-t25 c =
-    let s = time-small (c .before .before .before .before .before .before .number .result) (c .before .before .before .before .number2 .result) (c .before .before .number3 .result) (c .before .has-time-form .result) (c .if2 .taken) in
-    record { fits = omega arith }
+add-t25 c = search hours-minutes-fit
 
 add-t26 : tie.Need-add-t26
-add-t26 c =
-    let s = time-small (c .before .before .before .before .before .before .number .result) (c .before .before .before .before .number2 .result) (c .before .before .number3 .result) (c .before .has-time-form .result) (c .if2 .taken) in
-    record { fits = omega arith }
+add-t26 c = search time-fits
 
 returns-2 : tie.Need-returns-2
 returns-2 c = search time-value

@@ -7,7 +7,7 @@ use Prim.Native.Nat.{_-_, _≤_}
 use lib.ListN.{length, drop}
 use Rattle.text.specs.Bytes.{every}
 use Rattle.text.proofs.Loops.{every-fails, every-on, every-ends}
-use Rattle.text.proofs.Words.{chunk-fails, chunk-on}
+use Rattle.text.proofs.Words.{chunk-fails, chunk-on, last-eight}
 use Rattle.fields.specs.Texts.{isText}
 use Rattle.fields.proofs.texts.all_text.Statement.{statement}
 use Rattle.fields.proofs.texts.all_text.Tie as tie
@@ -45,6 +45,15 @@ loop-less c = search needs
 loop-again : tie.Need-loop-again Inv-loop μ-loop Inv-loop2 μ-loop2
 loop-again c = (omega arith, search (chunk-on isText))
 
+sub-text8 : tie.Need-sub-text8 Inv-loop μ-loop Inv-loop2 μ-loop2
+sub-text8 c = search needs
+
+text8-requires-2 : tie.Need-text8-requires-2 Inv-loop μ-loop Inv-loop2 μ-loop2
+text8-requires-2 c κs = search needs
+
+returns-2 : tie.Need-returns-2 Inv-loop μ-loop Inv-loop2 μ-loop2
+returns-2 c = search (last-eight isText)
+
 loop2-holds : tie.Need-loop2-holds Inv-loop μ-loop Inv-loop2 μ-loop2
 loop2-holds c = (omega arith, search needs)
 
@@ -54,8 +63,8 @@ shared-slice-read-is-text c = search needs
 is-text-requires : tie.Need-is-text-requires Inv-loop μ-loop Inv-loop2 μ-loop2
 is-text-requires c κs = search needs
 
-returns-2 : tie.Need-returns-2 Inv-loop μ-loop Inv-loop2 μ-loop2
-returns-2 c = search (every-fails isText)
+returns-3 : tie.Need-returns-3 Inv-loop μ-loop Inv-loop2 μ-loop2
+returns-3 c = search (every-fails isText)
 
 add-i-2 : tie.Need-add-i-2 Inv-loop μ-loop Inv-loop2 μ-loop2
 add-i-2 c = search needs
@@ -66,8 +75,8 @@ loop2-less c = search needs
 loop2-again : tie.Need-loop2-again Inv-loop μ-loop Inv-loop2 μ-loop2
 loop2-again c = (omega arith, search (every-on isText))
 
-returns-3 : tie.Need-returns-3 Inv-loop μ-loop Inv-loop2 μ-loop2
-returns-3 c = search (every-ends isText)
+returns-4 : tie.Need-returns-4 Inv-loop μ-loop Inv-loop2 μ-loop2
+returns-4 c = search (every-ends isText)
 
 pub all-text-spec : {M : Type 1} → statement M
 all-text-spec =
@@ -84,11 +93,14 @@ all-text-spec =
     add-i
     loop-less
     loop-again
+    sub-text8
+    text8-requires-2
+    returns-2
     loop2-holds
     shared-slice-read-is-text
     is-text-requires
-    returns-2
+    returns-3
     add-i-2
     loop2-less
     loop2-again
-    returns-3)
+    returns-4)

@@ -24,12 +24,11 @@ returns-3 c = search mail-no-local
 returns-4 : tie.Need-returns-4
 returns-4 c = search mail-full
 
-shared-slice-read-if5 : tie.Need-shared-slice-read-if5
-shared-slice-read-if5 c = search needs
+shared-slice-read-parted : tie.Need-shared-slice-read-parted
+shared-slice-read-parted c = search needs
 
 returns-5 : tie.Need-returns-5
-returns-5 c =
-    mail-no-at (c .before .before .before .before .before .before .before .before .before .args .f .now) (c .before .before .before .before .before .before .blank .result) (c .before .before .before .before .plain-run .result) (c .before .before .before .before .before .before .before .if1 .left) (c .before .before .before .before .before .before .blank .ensures) (c .before .before .before .before .before .if2 .left) (c .before .before .before .before .plain-run .ensures) (c .if5 .taken)
+returns-5 c = search mail-no-at
 
 add-behind : tie.Need-add-behind
 add-behind c = search needs
@@ -49,8 +48,8 @@ host-length-requires c κs = search needs
 returns-6 : tie.Need-returns-6
 returns-6 c = search mail-no-host
 
-add-t5 : tie.Need-add-t5
-add-t5 c = search needs
+add-t6 : tie.Need-add-t6
+add-t6 c = search needs
 
 returns-7 : tie.Need-returns-7
 returns-7 c = search mail-value
@@ -65,7 +64,7 @@ read-mail-spec =
     plain-run-requires
     returns-3
     returns-4
-    shared-slice-read-if5
+    shared-slice-read-parted
     returns-5
     add-behind
     sub-host-length
@@ -73,5 +72,5 @@ read-mail-spec =
     part-host-length-end
     host-length-requires
     returns-6
-    add-t5
+    add-t6
     returns-7)

@@ -1,22 +1,31 @@
 -- `fields::texts::read_text` meets its contract.
 -- Assumes nothing.
 use borrow.Author.Needs.{needs}
-use Rattle.fields.proofs.Frames.{frame-wide, frame-blank}
-use Rattle.fields.proofs.TextWays.{text-value, text-bad}
+use Rattle.fields.proofs.Frames.{frame-wide}
+use Rattle.fields.proofs.TextWays.{text-absent, text-value, text-bad}
 use Rattle.fields.proofs.texts.read_text.Statement.{statement}
 use Rattle.fields.proofs.texts.read_text.Tie as tie
 
 returns : tie.Need-returns
 returns c = search frame-wide
 
-blank-requires : tie.Need-blank-requires
-blank-requires c κs = search needs
+filled-requires : tie.Need-filled-requires
+filled-requires c κs = search needs
 
 returns-2 : tie.Need-returns-2
-returns-2 c = search frame-blank
+returns-2 c = search text-absent
 
-text-length-requires : tie.Need-text-length-requires
-text-length-requires c κs = search needs
+sub-all-text : tie.Need-sub-all-text
+sub-all-text c = search needs
+
+part-all-text-start : tie.Need-part-all-text-start
+part-all-text-start c = search needs
+
+part-all-text-end : tie.Need-part-all-text-end
+part-all-text-end c = search needs
+
+all-text-requires : tie.Need-all-text-requires
+all-text-requires c κs = search needs
 
 starts-with-requires : tie.Need-starts-with-requires
 starts-with-requires c κs = search needs
@@ -32,9 +41,12 @@ read-text-spec =
     tie.close
     (tie.spec
     returns
-    blank-requires
+    filled-requires
     returns-2
-    text-length-requires
+    sub-all-text
+    part-all-text-start
+    part-all-text-end
+    all-text-requires
     starts-with-requires
     returns-3
     returns-4)

@@ -5,35 +5,47 @@ use Rattle.record.proofs.ReadingWays.{address-is}
 use Rattle.record.proofs.readings.read_address.Statement.{statement}
 use Rattle.record.proofs.readings.read_address.Tie as tie
 
-text-in-requires : tie.Need-text-in-requires
-text-in-requires c κs = search needs
-
 field-requires : tie.Need-field-requires
 field-requires c κs = search needs
 
-read-postcode-requires : tie.Need-read-postcode-requires
-read-postcode-requires c κs = search needs
+sub-read-text : tie.Need-sub-read-text
+sub-read-text c = search needs
+
+mul-read-text : tie.Need-mul-read-text
+mul-read-text c = search needs
+
+array-read-read-text : tie.Need-array-read-read-text
+array-read-read-text c = search needs
+
+read-text-requires : tie.Need-read-text-requires
+read-text-requires c κs = search needs
 
 field-requires-2 : tie.Need-field-requires-2
 field-requires-2 c κs = search needs
 
+read-postcode-requires : tie.Need-read-postcode-requires
+read-postcode-requires c κs = search needs
+
+field-requires-3 : tie.Need-field-requires-3
+field-requires-3 c κs = search needs
+
 read-country-requires : tie.Need-read-country-requires
 read-country-requires c κs = search needs
 
-text-in-requires-2 : tie.Need-text-in-requires-2
-text-in-requires-2 c κs = search needs
+field-requires-4 : tie.Need-field-requires-4
+field-requires-4 c κs = search needs
 
-text-in-requires-3 : tie.Need-text-in-requires-3
-text-in-requires-3 c κs = search needs
+sub-read-text-2 : tie.Need-sub-read-text-2
+sub-read-text-2 c = search needs
 
-text-in-requires-4 : tie.Need-text-in-requires-4
-text-in-requires-4 c κs = search needs
+mul-read-text-2 : tie.Need-mul-read-text-2
+mul-read-text-2 c = search needs
 
-text-in-requires-5 : tie.Need-text-in-requires-5
-text-in-requires-5 c κs = search needs
+array-read-read-text-2 : tie.Need-array-read-read-text-2
+array-read-read-text-2 c = search needs
 
-text-in-requires-6 : tie.Need-text-in-requires-6
-text-in-requires-6 c κs = search needs
+read-text-requires-2 : tie.Need-read-text-requires-2
+read-text-requires-2 c κs = search needs
 
 returns : tie.Need-returns
 returns c = search address-is
@@ -42,14 +54,18 @@ pub read-address-spec : {M : Type 1} → statement M
 read-address-spec =
     tie.close
     (tie.spec
-    text-in-requires
     field-requires
-    read-postcode-requires
+    sub-read-text
+    mul-read-text
+    array-read-read-text
+    read-text-requires
     field-requires-2
+    read-postcode-requires
+    field-requires-3
     read-country-requires
-    text-in-requires-2
-    text-in-requires-3
-    text-in-requires-4
-    text-in-requires-5
-    text-in-requires-6
+    field-requires-4
+    sub-read-text-2
+    mul-read-text-2
+    array-read-read-text-2
+    read-text-requires-2
     returns)

@@ -17,8 +17,20 @@ field-requires-2 c κs = search needs
 read-mail-requires : tie.Need-read-mail-requires
 read-mail-requires c κs = search needs
 
-empty-in-requires : tie.Need-empty-in-requires
-empty-in-requires c κs = search needs
+field-requires-3 : tie.Need-field-requires-3
+field-requires-3 c κs = search needs
+
+sub-read-empty : tie.Need-sub-read-empty
+sub-read-empty c = search needs
+
+mul-read-empty : tie.Need-mul-read-empty
+mul-read-empty c = search needs
+
+array-read-read-empty : tie.Need-array-read-read-empty
+array-read-read-empty c = search needs
+
+read-empty-requires : tie.Need-read-empty-requires
+read-empty-requires c κs = search needs
 
 returns : tie.Need-returns
 returns c = search contact-is
@@ -31,5 +43,9 @@ read-contact-spec =
     read-telephone-requires
     field-requires-2
     read-mail-requires
-    empty-in-requires
+    field-requires-3
+    sub-read-empty
+    mul-read-empty
+    array-read-read-empty
+    read-empty-requires
     returns)

@@ -17,18 +17,6 @@ is-malformed-requires-3 c κs = search needs
 is-malformed-requires-4 : tie.Need-is-malformed-requires-4
 is-malformed-requires-4 c κs = search needs
 
-is-malformed-requires-5 : tie.Need-is-malformed-requires-5
-is-malformed-requires-5 c κs = search needs
-
-is-malformed-requires-6 : tie.Need-is-malformed-requires-6
-is-malformed-requires-6 c κs = search needs
-
-is-malformed-requires-7 : tie.Need-is-malformed-requires-7
-is-malformed-requires-7 c κs = search needs
-
-is-malformed-requires-8 : tie.Need-is-malformed-requires-8
-is-malformed-requires-8 c κs = search needs
-
 slice-aggregate-malformed-answer : tie.Need-slice-aggregate-malformed-answer
 slice-aggregate-malformed-answer c = search needs
 
@@ -46,10 +34,6 @@ address-form-answer-spec =
     is-malformed-requires-2
     is-malformed-requires-3
     is-malformed-requires-4
-    is-malformed-requires-5
-    is-malformed-requires-6
-    is-malformed-requires-7
-    is-malformed-requires-8
     slice-aggregate-malformed-answer
     malformed-answer-requires
     returns)

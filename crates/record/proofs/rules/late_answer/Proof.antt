@@ -8,6 +8,9 @@ use Rattle.record.proofs.rules.late_answer.Tie as tie
 piece-answer-requires : tie.Need-piece-answer-requires
 piece-answer-requires c κs = search needs
 
+read-tail-requires : tie.Need-read-tail-requires
+read-tail-requires c κs = search needs
+
 tail-answer-requires : tie.Need-tail-answer-requires
 tail-answer-requires c κs = search needs
 
@@ -34,6 +37,7 @@ late-answer-spec =
     tie.close
     (tie.spec
     piece-answer-requires
+    read-tail-requires
     tail-answer-requires
     or-else-requires
     marks-answer-requires
