@@ -37,8 +37,8 @@ readSymbol = readDigits (widthOf 21)
 abbrev pub readCount : List ℕ → NumberReading
 readCount f = framed Absent Malformed (widthOf 23) f (allDigits f && ltb 0 (numberOf f)) (Value (numberOf f))
 
-pub serial-as-wide-as-pieces : widthOf 24 ≡ widthOf 23
-serial-as-wide-as-pieces = refl
+pub pieces-as-wide-as-serial : widthOf 24 ≡ widthOf 23
+pieces-as-wide-as-serial = refl
 
 -- ---- what the rules ask of such a field
 abbrev pub malformedNumber : NumberReading → Bool

@@ -48,6 +48,23 @@ parcel id name status =
 unfoldable pub cashOnDelivery : List ℕ
 cashOnDelivery = parcel "BO3601002029C" "Eva" ""
 
+-- the first of three pieces, with every field filled that may be; and the same 399 bytes written out, whatever the table of widths says
+unfoldable pub firstPiece : List ℕ
+firstPiece =
+    recordOf
+    ("BO5412345671F" ∷ "20240229" ∷ "23:59:59" ∷ "Jan Novak" ∷ "11000" ∷ "" ∷ "Praha 1" ∷ "Stare Mesto" ∷ "Dlouha" ∷ "12" ∷ "3a" ∷ "+420123456789" ∷ "jan@novak.cz"
+    ∷ "" ∷ " 0.500" ∷ "10.00" ∷ "20.00" ∷ "7+41+70" ∷ "" ∷ "F1" ∷ "0000000001" ∷ "BO5412345671F" ∷ "01" ∷ "03" ∷ "" ∷ "S1" ∷ [])
+
+unfoldable pub firstPieceWrittenOut : List ℕ
+firstPieceWrittenOut =
+    bytes "BO5412345671F2024022923:59:59Jan Novak                     "
+    ++ (bytes "11000  Praha 1                                 "
+    ++ (bytes "Stare Mesto                             Dlouha                                  "
+    ++ (bytes "12    3a    +420123456789       "
+    ++ (bytes "jan@novak.cz                                                  "
+    ++ (bytes " 0.50010.00       20.00       7+41+70                         "
+    ++ (bytes "F1        0000000001BO5412345671F0103          S1        "))))))
+
 -- piece 02 of 03 of a set whose first piece is BO5412345671F
 unfoldable pub secondPiece : List ℕ
 secondPiece =
@@ -63,7 +80,9 @@ answers code place a = eqb (a .code) code && eqb (a .place) place
 
 unfoldable pub claims : List Bool
 claims =
-    answers 0 0 (recordAnswer true domestic)
+    answers 0 0 (recordAnswer true firstPiece)
+    ∷ sameBytes firstPiece firstPieceWrittenOut
+    ∷ answers 0 0 (recordAnswer true domestic)
     ∷ answers 0 0 (recordAnswer true abroad)
     ∷ answers 0 0 (recordAnswer true cashOnDelivery)
     ∷ answers 0 0 (recordAnswer true secondPiece)
@@ -72,5 +91,5 @@ claims =
     ∷ []
 
 pub shown : allHold claims ≡ true
-unfolding bytes allHold every run numberAfter sameBytes shapeOf weighted endsRight rightId partsOf fieldOf framed daysIn readDate readTime filled contains isHost isMail isMoney codesFrom hasCode withCode added readServices askedOf givenOf travelOf table recordAnswer inField laidOut recordOf parcel domestic abroad cashOnDelivery secondPiece cancelledParcel answers claims
+unfolding bytes allHold every run numberAfter sameBytes shapeOf weighted endsRight rightId partsOf fieldOf framed daysIn readDate readTime filled contains isHost isMail isMoney codesFrom hasCode withCode added readServices askedOf givenOf travelOf table recordAnswer inField laidOut recordOf parcel domestic abroad cashOnDelivery firstPiece firstPieceWrittenOut secondPiece cancelledParcel answers claims
 shown = refl
