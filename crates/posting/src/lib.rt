@@ -323,7 +323,8 @@ fn put_line(out: &mut [u8], numbers: &[u64])
     }
 }
 
-fn put_report(a: FileAnswer, out: &mut [u8]) -> Reported
+// The line for such an answer, into a lent buffer.
+pub fn put_report(a: FileAnswer, out: &mut [u8]) -> Reported
     ensures { λ r. ⌜ Report a (now (out .entry)) r (now (out .exit)) ⌝ }
 {
     let numbers = numbers_of(a);

@@ -1,0 +1,9 @@
+pub mod SetLaws
+pub mod Counting
+pub mod AnyOrder
+pub mod Numbers
+pub mod FirstOf
+pub mod ClosingLaws
+pub mod LinkWays
+pub mod SetWays
+pub mod Ways
