@@ -73,6 +73,22 @@ uint32_t fuganorezi_identifier_check(const uint8_t *bytes, size_t length);
 uint32_t fuganorezi_file_check(const uint8_t *bytes, size_t length, uint64_t out[7]);
 
 /*
+ * Whether these bytes are a K file that may be closed: a good one, as above, in which every set
+ * that travels together is whole. A set is all live consignments with the same main consignment
+ * (field 22); one that is cancelled, or has field 22 blank, is in no set. It is whole if all give
+ * the same number of pieces (field 24), and their serials (field 23) run from 01 to that number,
+ * each once.
+ *
+ * Result and `out` are as those of the file check. If the file is no good they are the same as
+ * its; else there is one code more:
+ *
+ * 240      some set is not whole. The record is the earliest live one whose set is not, and the
+ *          place is found over that whole set: its pieces give different numbers of pieces (24),
+ *          else a serial is there twice (23), else one is missing (22).
+ */
+uint32_t fuganorezi_closing_check(const uint8_t *bytes, size_t length, uint64_t out[7]);
+
+/*
  * The open batch: consignments are added, amended and cancelled, and each of these actions can
  * be undone, the latest first.
  *

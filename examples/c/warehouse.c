@@ -5,13 +5,15 @@
  *
  *     cc -std=c11 -O2 -Iinclude -o warehouse examples/c/warehouse.c target/staticlib/libfuganorezi.a
  *
- * Use: warehouse FILE
+ * Use: warehouse [--closing] FILE
+ * With --closing it also looks whether the sets that travel together are whole.
  * Status 0: the file is good. 1: it is wrong. 2: it cannot be read.
  */
 #include "fuganorezi.h"
 
 #include <errno.h>
 #include <inttypes.h>
+#include <stdbool.h>
 #include <stdio.h>
 #include <stdlib.h>
 #include <string.h>
@@ -20,8 +22,11 @@ enum { FILE_IS_GOOD = 0, FILE_IS_WRONG = 1, CANNOT_BE_READ = 2 };
 
 enum { FIELDS = 26, STEP = 401, IDENTIFIER = 13 };
 
-/* The seven numbers of the file check. */
+/* The seven numbers of the file check and of the closing check. */
 enum { CODE, RECORD, PLACE, LIVE, CANCELLED, ON_DELIVERY, SPECIFIED, NUMBERS };
+
+/* Either of these checks. */
+typedef uint32_t file_check(const uint8_t *bytes, size_t length, uint64_t out[NUMBERS]);
 
 /* Each field by its name, and what it may hold. */
 struct field {
@@ -85,6 +90,9 @@ static const struct rule rules[] = {
              "another one for all other pieces"},
     {72, 23, "must be filled with service 70 and blank without it, and not be above the number of pieces"},
     {72, 24, "must be filled with service 70 and blank without it"},
+    {240, 24, "the pieces of its set give different numbers of pieces"},
+    {240, 23, "a serial of its set is there twice"},
+    {240, 22, "a piece of its set is missing"},
 };
 
 static const char *words_for(uint64_t code, uint64_t place)
@@ -191,10 +199,10 @@ static void print_totals(const char *path, const uint64_t numbers[NUMBERS])
     print_crowns("price specified ", numbers[SPECIFIED]);
 }
 
-static int check(const char *path, const uint8_t *bytes, size_t length)
+static int check(file_check *call, const char *path, const uint8_t *bytes, size_t length)
 {
     uint64_t numbers[NUMBERS];
-    if (fuganorezi_file_check(bytes, length, numbers) != 0) {
+    if (call(bytes, length, numbers) != 0) {
         print_what_is_wrong(path, bytes, numbers);
         return FILE_IS_WRONG;
     }
@@ -205,16 +213,18 @@ static int check(const char *path, const uint8_t *bytes, size_t length)
 int main(int count, char **words)
 {
     size_t length;
-    if (count != 2) {
-        fprintf(stderr, "usage: %s FILE\n", count > 0 ? words[0] : "warehouse");
+    bool closing = count == 3 && strcmp(words[1], "--closing") == 0;
+    if (count != 2 && !closing) {
+        fprintf(stderr, "usage: %s [--closing] FILE\n", count > 0 ? words[0] : "warehouse");
         return CANNOT_BE_READ;
     }
-    uint8_t *bytes = read_file(words[1], &length);
+    const char *path = words[count - 1];
+    uint8_t *bytes = read_file(path, &length);
     if (bytes == NULL) {
-        fprintf(stderr, "%s: cannot be read: %s\n", words[1], strerror(errno));
+        fprintf(stderr, "%s: cannot be read: %s\n", path, strerror(errno));
         return CANNOT_BE_READ;
     }
-    int status = check(words[1], bytes, length);
+    int status = check(closing ? fuganorezi_closing_check : fuganorezi_file_check, path, bytes, length);
     free(bytes);
     return status;
 }

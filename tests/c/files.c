@@ -1,68 +1,16 @@
 /*
  * The file check from C: the judged vectors, every prefix of a good file, the largest files, the paper's example 14.
- * The bytes asked about always end where memory that cannot be read begins, and cannot be written during the call.
  */
 #define _DEFAULT_SOURCE /* for fenced.h */
-#include "fenced.h"
-#include "fuganorezi.h"
-#include "good_file.h"
-#include "judged.h"
+#include "asking.h"
 
-enum { MOST_RECORDS = 999, PREFIX_RECORDS = 2 * GOOD_KINDS, NUMBERS = 7 };
-
-/* Memory for one byte and one record more than the largest file. */
-static struct fenced memory;
-
-static void expect_numbers(const char *what, unsigned long number, uint32_t code, const uint64_t out[NUMBERS],
-                           const uint64_t expected[NUMBERS])
-{
-    expect(what, number, code, expected[0]);
-    for (int i = 0; i < NUMBERS; i++)
-        expect(what, number, out[i], expected[i]);
-}
-
-/* Asks about bytes that stand before the fence already. */
-static void ask_fenced(const char *what, unsigned long number, size_t length, const uint64_t expected[NUMBERS])
-{
-    const uint64_t untouched = UINT64_C(0x5a5a5a5a5a5a5a5a);
-    uint64_t around[NUMBERS + 2];
-    for (int i = 0; i < NUMBERS + 2; i++)
-        around[i] = untouched;
-    protect(memory, PROT_READ);
-    uint32_t code = fuganorezi_file_check(memory.fence - length, length, around + 1);
-    protect(memory, PROT_READ | PROT_WRITE);
-    expect_numbers(what, number, code, around + 1, expected);
-    expect(what, number, around[0], untouched);
-    expect(what, number, around[NUMBERS + 1], untouched);
-}
-
-static void ask(const char *what, unsigned long number, const uint8_t *bytes, size_t length,
-                const uint64_t expected[NUMBERS])
-{
-    put_before_fence(memory, bytes, length);
-    ask_fenced(what, number, length, expected);
-}
-
-static void ask_refused(const char *what, const uint8_t *bytes, size_t length, uint64_t code, uint64_t record,
-                        uint64_t place)
-{
-    const uint64_t expected[NUMBERS] = {code, record, place};
-    ask(what, length, bytes, length, expected);
-}
+enum { PREFIX_RECORDS = 2 * GOOD_KINDS };
 
 static void ask_accepted(const char *what, const uint8_t *bytes, unsigned records)
 {
     struct good_totals totals = good_totals(records);
     const uint64_t expected[NUMBERS] = {0, 0, 0, totals.live, totals.cancelled, totals.cash, totals.price};
     ask(what, records, bytes, (size_t)records * GOOD_STEP, expected);
-}
-
-static void ask_no_bytes(void)
-{
-    const uint64_t zeros[NUMBERS] = {0};
-    uint64_t out[NUMBERS] = {1, 1, 1, 1, 1, 1, 1};
-    uint32_t code = fuganorezi_file_check(NULL, 0, out);
-    expect_numbers("NULL", 0, code, out, zeros);
 }
 
 static void ask_example_14(void)
@@ -166,7 +114,7 @@ int main(int count, char **words)
 {
     if (count != 3)
         give_up(words[0], "wants a file of items and one of their lines");
-    memory = fenced_memory((size_t)(MOST_RECORDS + 1) * GOOD_STEP + 1);
+    start(fuganorezi_file_check);
     ask_no_bytes();
     ask_example_14();
     ask_made_files();

@@ -4,15 +4,17 @@ use Prim.Native.Nat.{ℕ}
 use mathlib.Core.Path.{_≡_}
 use mathlib.Core.List.{List}
 use Rattle.text.proofs.OneOutcome.{gives-once}
+use Rattle.posting.specs.declared.FileAnswer.{FileAnswer}
 use Rattle.batch.specs.Batch.{Batch, Call}
 use Rattle.fuganorezi.specs.declared.BatchOutcome.{BatchOutcome}
-use Rattle.fuganorezi.specs.Calls.{IdentifierChecked, FileChecked, BatchCalled}
+use Rattle.fuganorezi.specs.Calls.{IdentifierChecked, Answered, BatchCalled}
 
 pub identifier-checked-once : (id : List ℕ) (r s : ℕ) → IdentifierChecked id r → IdentifierChecked id s → r ≡ s
 identifier-checked-once id r s = gives-once _ r s
 
-pub file-checked-once : (file : List ℕ) (r s : ℕ) (a b : List ℕ) → FileChecked file r a → FileChecked file s b → (r ≡ s) × (a ≡ b)
-file-checked-once file r s a b u v = (gives-once _ r s (u .code) (v .code), gives-once _ a b (u .numbers) (v .numbers))
+-- of the file check and of the closing check
+pub answered-once : (a : FileAnswer) (r s : ℕ) (out out′ : List ℕ) → Answered a r out → Answered a s out′ → (r ≡ s) × (out ≡ out′)
+answered-once a r s out out′ u v = (gives-once _ r s (u .code) (v .code), gives-once _ out out′ (u .numbers) (v .numbers))
 
 pub batch-called-once : (b : Batch) (call : Call) (r s : BatchOutcome) (file file′ journal journal′ : List ℕ)
     → BatchCalled b call r file journal → BatchCalled b call s file′ journal′ → (r ≡ s) × (file ≡ file′) × (journal ≡ journal′)

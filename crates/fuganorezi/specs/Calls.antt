@@ -8,8 +8,10 @@ use Rattle.text.specs.declared.Answer.{Answer}
 use Rattle.text.specs.Answers.{accepted}
 use Rattle.ident.specs.Identifier.{rightId}
 use Rattle.ident.specs.Calls.{notRight}
+use Rattle.posting.specs.declared.FileAnswer.{FileAnswer}
 use Rattle.posting.specs.File.{totals, fileAnswer}
 use Rattle.posting.specs.Report.{numbersOf}
+use Rattle.closing.specs.Closing.{closingAnswer}
 use Rattle.batch.specs.declared.Counts.{Counts}
 use Rattle.batch.specs.Batch.{Batch, Call, countsOf, answerTo, after}
 use Rattle.fuganorezi.specs.declared.BatchCounts.{BatchCounts}
@@ -19,10 +21,17 @@ use Rattle.fuganorezi.specs.declared.BatchOutcome.{BatchOutcome}
 abbrev pub IdentifierChecked : List ℕ → ℕ → Type 0
 IdentifierChecked s r = r ≡ cond (rightId s) (accepted .code) (notRight .code)
 
--- of the file check: its code, and in `out` all seven numbers of its answer, whatever stood there
-pub record FileChecked (file : List ℕ) (r : ℕ) (out : List ℕ) : Type 0 where
-  pub code : r ≡ fileAnswer file .code
-  pub numbers : out ≡ numbersOf (fileAnswer file)
+-- of an answer to a file: its code, and in `out` all its seven numbers, whatever stood there
+pub record Answered (a : FileAnswer) (r : ℕ) (out : List ℕ) : Type 0 where
+  pub code : r ≡ a .code
+  pub numbers : out ≡ numbersOf a
+
+-- so of the file check, and of the closing check
+abbrev pub FileChecked : List ℕ → ℕ → List ℕ → Type 0
+FileChecked file = Answered (fileAnswer file)
+
+abbrev pub ClosingChecked : List ℕ → ℕ → List ℕ → Type 0
+ClosingChecked file = Answered (closingAnswer file)
 
 -- ---- the batch: its counts and its outcome, in C's structs
 abbrev pub countsIn : BatchCounts → Counts

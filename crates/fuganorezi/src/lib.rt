@@ -1,10 +1,11 @@
 // The interface for C, declared in include/fuganorezi.h: byte slices and counts in, numbers out.
 ghost use mathlib.Core.Path.{_≡_};
 ghost use Rattle.batch.specs.Batch.{noCounts, batchOf, Open, Add, Amend, Cancel, Undo};
-ghost use Rattle.fuganorezi.specs.Calls.{IdentifierChecked, FileChecked, countsIn, outcomeOf, BatchCalled};
+ghost use Rattle.fuganorezi.specs.Calls.{IdentifierChecked, Answered, FileChecked, ClosingChecked, countsIn, outcomeOf, BatchCalled};
 use batch::Counts;
 use batch::Outcome;
 use fields::Hellers;
+use posting::FileAnswer;
 use posting::Totals;
 
 #[no_mangle]
@@ -15,13 +16,25 @@ pub extern "C" fn fuganorezi_identifier_check(bytes: &[u8]) -> u32
 }
 
 // The code is the result and stands in `out` too, so that `out` alone has the whole answer.
+fn told(answer: FileAnswer, out: &mut [u64; 7]) -> u32
+    ensures { λ r. ⌜ Answered answer r (now (out .exit)) ⌝ }
+{
+    *out = posting::numbers_of(answer);
+    answer.code
+}
+
 #[no_mangle]
 pub extern "C" fn fuganorezi_file_check(bytes: &[u8], out: &mut [u64; 7]) -> u32
     ensures { λ r. ⌜ FileChecked (now (bytes .entry)) r (now (out .exit)) ⌝ }
 {
-    let answer = posting::check(bytes);
-    *out = posting::numbers_of(answer);
-    answer.code
+    told(posting::check(bytes), out)
+}
+
+#[no_mangle]
+pub extern "C" fn fuganorezi_closing_check(bytes: &[u8], out: &mut [u64; 7]) -> u32
+    ensures { λ r. ⌜ ClosingChecked (now (bytes .entry)) r (now (out .exit)) ⌝ }
+{
+    told(closing::check(bytes), out)
 }
 
 // ---- the open batch: its counts go in and come out by value, amounts in haléře as plain numbers

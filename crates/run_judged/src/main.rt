@@ -16,6 +16,7 @@ enum Kind {
     Parts,
     Records,
     Files,
+    Closing,
     Histories,
 }
 
@@ -43,7 +44,8 @@ fn answer_item(kind: Kind, fd: i32, size: usize, path: &[u8]) -> bool {
         Kind::Identifiers => answer_identifier(fd, size, path),
         Kind::Parts => parts::answer(fd, size, path),
         Kind::Records => answer_record(fd, size, path),
-        Kind::Files => files::answer(fd, size, path),
+        Kind::Files => files::answer(fd, size, path, false),
+        Kind::Closing => files::answer(fd, size, path, true),
         Kind::Histories => histories::answer(fd, size, path),
     }
 }
@@ -86,6 +88,7 @@ fn main() {
     answer_all(Kind::Parts, b"parts.bin");
     answer_all(Kind::Records, b"records.bin");
     answer_all(Kind::Files, b"files.bin");
+    answer_all(Kind::Closing, b"closing.bin");
     answer_all(Kind::Histories, b"histories.bin");
     answer_all(Kind::Records, b"rules.bin");
 }
