@@ -3,15 +3,10 @@
  * of each on good files of several sizes.
  */
 #define _POSIX_C_SOURCE 199309L /* for times.h */
+#include "file_checks.h"
 #include "fuganorezi.h"
-#include "good_file.h"
 #include "judged.h"
 #include "reference.h"
-#include "times.h"
-
-enum { MOST_RECORDS = 999, RUNS = 201, NUMBERS = 7 };
-
-typedef uint32_t file_check(const uint8_t *bytes, size_t length, uint64_t out[7]);
 
 /* Answers */
 
@@ -50,16 +45,6 @@ static void compare_on_good_file(uint8_t *file, unsigned records)
 }
 
 /* Times */
-
-static uint64_t time_of_calls(file_check *check, const uint8_t *file, unsigned records, unsigned long calls)
-{
-    uint64_t out[NUMBERS];
-    uint64_t start = now_in_nanoseconds();
-    for (unsigned long i = 0; i < calls; i++)
-        if (check(file, (size_t)records * GOOD_STEP, out) != 0)
-            give_up("a good file", "was refused");
-    return now_in_nanoseconds() - start;
-}
 
 /* So many calls that one run is long beside the clock's own step. */
 static unsigned long calls_for(const uint8_t *file, unsigned records)

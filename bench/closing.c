@@ -1,24 +1,10 @@
 /* The closing check beside the file check of the same file: without sets, and with every record in one. */
 #define _POSIX_C_SOURCE 199309L /* for times.h */
+#include "file_checks.h"
 #include "fuganorezi.h"
 #include "good_sets.h"
-#include "times.h"
-
-enum { MOST_RECORDS = 999, RUNS = 201, NUMBERS = 7 };
-
-typedef uint32_t file_check(const uint8_t *bytes, size_t length, uint64_t out[7]);
 
 static uint8_t file[MOST_RECORDS * GOOD_STEP];
-
-static uint64_t time_of_calls(file_check *check, unsigned records, unsigned long calls)
-{
-    uint64_t out[NUMBERS];
-    uint64_t start = now_in_nanoseconds();
-    for (unsigned long i = 0; i < calls; i++)
-        if (check(file, (size_t)records * GOOD_STEP, out) != 0)
-            give_up("a file of whole sets", "was refused");
-    return now_in_nanoseconds() - start;
-}
 
 /* The runs take turns, so that what else the machine does falls on both. */
 static void print_times(const char *what, unsigned records)
@@ -26,8 +12,8 @@ static void print_times(const char *what, unsigned records)
     uint64_t checks[RUNS], closings[RUNS];
     unsigned long calls = MOST_RECORDS / records;
     for (int i = 0; i < RUNS; i++) {
-        checks[i] = time_of_calls(fuganorezi_file_check, records, calls);
-        closings[i] = time_of_calls(fuganorezi_closing_check, records, calls);
+        checks[i] = time_of_calls(fuganorezi_file_check, file, records, calls);
+        closings[i] = time_of_calls(fuganorezi_closing_check, file, records, calls);
     }
     double of_check = median(checks, RUNS) / 1000 / (double)calls;
     double of_closing = median(closings, RUNS) / 1000 / (double)calls;
