@@ -6,18 +6,18 @@ use mathlib.Core.Bool.{Bool, true, false, cond}
 use mathlib.Core.Path.{_≡_, refl, sym, ap, _∙_}
 use mathlib.Core.List.{List}
 use native.Mathlib.Omega.{arith}
-use borrow.Author.Tests.{eqb-true, eqb-false, ne-eqb}
+use borrow.Author.Tests.{eqb-true, eqb-false}
 use lib.Dec.{eqb}
 use lib.ListN.{length}
 use Rattle.posting.specs.declared.FileAnswer.{FileAnswer}
 use Rattle.posting.specs.File.{refused, fileAnswer}
 use Rattle.posting.proofs.Ways.{file-odd, file-long}
 use Rattle.closing.specs.Closing.{closingAnswer}
+use Rattle.closing.proofs.FirstOf.{refusal-stands}
 
 -- the file's own refusal
 own-refusal : (file : List ℕ) (a : FileAnswer) → a ≡ fileAnswer file → (a .code ≡ 0 → ⊥) → closingAnswer file ≡ a
-unfolding closingAnswer
-own-refusal file a e n = rw (← e, ne-eqb (a .code) 0 n)
+own-refusal file a e n = refusal-stands file (rw e at n) ∙ sym e
 
 -- by the bytes that are left over
 abbrev longAnswer : ℕ → FileAnswer
