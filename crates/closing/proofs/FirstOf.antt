@@ -7,8 +7,7 @@ use mathlib.Core.List.{List, [], _∷_}
 use mathlib.Core.Logic.{_↔_}
 use native.Mathlib.Numerals.{add-one}
 use native.Mathlib.Omega.{arith}
-use borrow.Author.Tests.{eq-eqb, ne-eqb, eqb-true, eqb-false}
-use lib.Dec.{eqb}
+use borrow.Author.Tests.{eq-eqb, ne-eqb}
 use lib.ListN.{length, getD}
 use Rattle.text.proofs.Booleans.{clash}
 use Rattle.posting.specs.declared.FileAnswer.{FileAnswer}
@@ -17,6 +16,7 @@ use Rattle.posting.proofs.RecordList.{length-upTo, upTo-nth}
 use Rattle.closing.specs.Sets.{mainOf, inSet, setUnder, offence}
 use Rattle.closing.specs.Closing.{recordsOf, placeOf, offends, oneMore, firstThat, earliest, closingOf, closingAnswer}
 use Rattle.closing.specs.Links.{WholeBefore}
+use Rattle.closing.proofs.Below.{below-more}
 
 -- ---- one more, but for 0
 none-more : (n : ℕ) → oneMore n ≡ 0 → n ≡ 0
@@ -91,11 +91,7 @@ pub whole-start : (file : List ℕ) → WholeBefore file 0
 whole-start file j h = absurd (omega arith)
 
 pub whole-more : (file : List ℕ) (n : ℕ) → WholeBefore file n → placeOf (recordsOf file) (recordAt file n) ≡ 0 → WholeBefore file (suc n)
-whole-more file n w z j h = go (eqb j n) refl
-  where
-    go : (t : Bool) → eqb j n ≡ t → placeOf (recordsOf file) (recordAt file j) ≡ 0
-    go true e = rw (eqb-true j n e) z
-    go false e = let other = eqb-false j n e in w j (omega arith)
+whole-more file n w z = below-more (λ j. placeOf (recordsOf file) (recordAt file j) ≡ 0) n w z
 
 -- ---- the file
 module _ (good : FileAnswer) (file : List ℕ) where

@@ -1,3 +1,4 @@
+pub mod Below
 pub mod SetLaws
 pub mod Counting
 pub mod AnyOrder

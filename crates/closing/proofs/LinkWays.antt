@@ -2,11 +2,10 @@
 -- Assumes nothing.
 use Prim.Native.Nat.{ℕ, zero, suc, _+_, _-_, _*_, _≤_, _<_}
 use mathlib.Core.Path.{_≡_, refl, sym, ap, _∙_}
-use mathlib.Core.Bool.{Bool, true, false, cond, _&&_}
+use mathlib.Core.Bool.{Bool, true, false, cond, _&&_, and-false}
 use mathlib.Core.List.{List}
+use native.Mathlib.Numerals.{add-one}
 use native.Mathlib.Omega.{arith}
-use borrow.Author.Tests.{eqb-true, eqb-false}
-use lib.Dec.{eqb}
 use lib.ListN.{length, getD, take, drop, set, length-set, length-drop}
 use lib.Seq.{take-add, take-take, drop-drop, drop-at, length-take-le, getD-set-same, getD-set-other}
 use mir.Syntax.{w64, w16}
@@ -26,6 +25,7 @@ use Rattle.posting.specs.Sums.{isLive}
 use Rattle.posting.proofs.RecordList.{record-wide}
 use Rattle.posting.proofs.Ways.{from-start}
 use Rattle.closing.specs.Links.{liveAt, mainAt, lastLive, liveFrom, Linked, WholeRecords, RoomFor, NowNoted, ToLink, AllLinked}
+use Rattle.closing.proofs.Below.{below-more}
 
 -- ---- record_at
 pub record-is : (file : List ℕ) (i : ℕ) → take (i * 401 + 399 - i * 401) (drop (i * 401) file) ≡ recordAt file i
@@ -69,16 +69,12 @@ last-seek file key zero h = refl
 last-seek file key (suc n) h =
     rw (main-is file n (omega arith)) (go (sameBytes (mainAt file n) key) refl (last-seek file key n (omega arith)))
   where
-    cancelled-or-other : (l : Bool) → cond (l && false) (suc n) (lastLive file key n) ≡ lastLive file key n
-    cancelled-or-other true = refl
-    cancelled-or-other false = refl
-
     go : (t : Bool) → sameBytes (mainAt file n) key ≡ t → lastLive file key n ≡ liveFrom file (seek file 362 key n)
         → cond (liveAt file n && t) (suc n) (lastLive file key n) ≡ liveFrom file (cond t (suc n) (seek file 362 key n))
     go true e ih =
         let same = same-exactly (mainAt file n) key .0 e in
         rw (same-refl (mainAt file n)) (ap (λ (k : List ℕ). cond (liveAt file n && true) (suc n) (lastLive file k n)) (sym same))
-    go false e ih = cancelled-or-other (liveAt file n) ∙ ih
+    go false e ih = rw (and-false (liveAt file n)) ih
 
 -- ---- live_from
 pub from-none : (file : List ℕ) (at : ℕ) → at ≡ 0 → 0 ≡ liveFrom file at
@@ -182,14 +178,11 @@ one-linked file n table₀ links₀ table links after r room h known now = recor
     there : n < length links
     there = omega (arith, known .places, room .room)
 
-    go : (i : ℕ) → i < n + 1 → (t : Bool) → eqb i n ≡ t → getD (set links n r) i 0 ≡ lastLive file (mainAt file i) i
-    go i l true e = rw (eqb-true i n e) (getD-set-same links n r 0 there ∙ now .0 .link)
-    go i l false e =
-        let other = eqb-false i n e in
-        getD-set-other links n i r 0 other ∙ known .linked .each i (omega arith)
+    before : (i : ℕ) → i < n → getD (set links n r) i 0 ≡ lastLive file (mainAt file i) i
+    before i h = getD-set-other links n i r 0 (λ e. omega arith) ∙ known .linked .each i h
 
     each : (i : ℕ) → i < n + 1 → getD (set links n r) i 0 ≡ lastLive file (mainAt file i) i
-    each i l = go i l (eqb i n) refl
+    each = rw add-one (below-more (λ i. getD (set links n r) i 0 ≡ lastLive file (mainAt file i) i) n before (getD-set-same links n r 0 there ∙ now .0 .link))
 
 pub low-there : (file table links : List ℕ) (i : ℕ) → ToLink file table links → i < recordsIn file → i < 1000
 low-there file table links i room h = omega (arith, room .records .few)

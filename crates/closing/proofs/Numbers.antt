@@ -113,22 +113,22 @@ module _ (rec : List ℕ) (keeps : noneBroken (table false rec) ≡ true) where
       (count-low (fieldOf rec 23) (none-malformed false rec keeps 21) serial, ltb-false (piecesOf rec) (serialOf rec) above)
 
 -- ---- one of those that a test keeps is one of the list, and passes the test
-pub record From {A : Type 0} (p : A → Bool) (xs : List A) (d x : A) : Type 0 where
+pub record OneOf {A : Type 0} (p : A → Bool) (xs : List A) (d x : A) : Type 0 where
   pub at : ℕ
   pub inside : at < length xs
   pub there : getD xs at d ≡ x
   pub passes : p x ≡ true
 
-pub kept-from : {A : Type 0} (p : A → Bool) (xs : List A) (d : A) (i : ℕ) → i < length (kept p xs) → From p xs d (getD (kept p xs) i d)
+pub kept-one-of : {A : Type 0} (p : A → Bool) (xs : List A) (d : A) (i : ℕ) → i < length (kept p xs) → OneOf p xs d (getD (kept p xs) i d)
 unfolding kept
-kept-from p [] d i h = absurd (omega arith)
-kept-from {A} p (x ∷ xs) d i h = go (p x) refl i h (kept-from p xs d)
+kept-one-of p [] d i h = absurd (omega arith)
+kept-one-of {A} p (x ∷ xs) d i h = go (p x) refl i h (kept-one-of p xs d)
   where
-    later : {y : A} → From p xs d y → From p (x ∷ xs) d y
+    later : {y : A} → OneOf p xs d y → OneOf p (x ∷ xs) d y
     later f = record { at = suc (f .at); inside = omega (arith, f .inside); there = f .there; passes = f .passes }
 
-    go : (t : Bool) → p x ≡ t → (i : ℕ) → i < length (cond t (x ∷ kept p xs) (kept p xs)) → ((i : ℕ) → i < length (kept p xs) → From p xs d (getD (kept p xs) i d))
-        → From p (x ∷ xs) d (getD (cond t (x ∷ kept p xs) (kept p xs)) i d)
+    go : (t : Bool) → p x ≡ t → (i : ℕ) → i < length (cond t (x ∷ kept p xs) (kept p xs)) → ((i : ℕ) → i < length (kept p xs) → OneOf p xs d (getD (kept p xs) i d))
+        → OneOf p (x ∷ xs) d (getD (cond t (x ∷ kept p xs) (kept p xs)) i d)
     go true e zero l ih = record { at = 0; inside = omega arith; there = refl; passes = e }
     go true e (suc i) l ih = later (ih i (omega arith))
     go false e i l ih = later (ih i l)
@@ -139,9 +139,9 @@ unfolding setUnder
 set-numbered file z main filled i h =
     let good = good-file file z in
     let n : ℕ = recordsIn file in
-    let a = kept-from (λ rec. sameBytes (mainOf rec) main) (live (recordsOf file)) [] i h in
+    let a = kept-one-of (λ rec. sameBytes (mainOf rec) main) (live (recordsOf file)) [] i h in
     let rec : List ℕ = getD (kept (λ rec. sameBytes (mainOf rec) main) (live (recordsOf file))) i [] in
-    let b = kept-from (λ rec. isLive (readStatus (fieldOf rec 19))) (recordsOf file) [] (a .at) (a .inside) in
+    let b = kept-one-of (λ rec. isLive (readStatus (fieldOf rec 19))) (recordsOf file) [] (a .at) (a .inside) in
     let inside : b .at < n = omega (arith, b .inside, length-upTo (recordAt file) n) in
     let is : rec ≡ recordAt file (b .at) = sym (a .there) ∙ sym (b .there) ∙ upTo-nth (recordAt file) n (b .at) [] inside in
     let its : mainOf rec ≡ main = same-exactly (mainOf rec) main .0 (a .passes) in

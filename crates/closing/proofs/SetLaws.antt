@@ -2,7 +2,7 @@
 -- Assumes nothing.
 use Prim.Native.Nat.{ℕ, zero, suc, _-_, _<_}
 use mathlib.Core.Path.{_≡_, refl, sym, _∙_}
-use mathlib.Core.Bool.{Bool, true, false, cond, not, _&&_}
+use mathlib.Core.Bool.{Bool, true, false, cond, not, _&&_, not-eq-not}
 use mathlib.Core.List.{List, [], _∷_}
 use mathlib.Core.Logic.{_↔_}
 use native.Mathlib.Omega.{arith}
@@ -24,12 +24,10 @@ use Rattle.closing.specs.Outcomes.{Unequal, Repeated, Missing, SetOutcom
 
 -- ---- tests that are not true, or not false
 pub never-false : (b : Bool) → (b ≡ false → ⊥) → b ≡ true
-never-false true h = refl
-never-false false h = absurd (h refl)
+never-false b = not-eq-not {b = true} .0
 
 pub never-true : (b : Bool) → (b ≡ true → ⊥) → b ≡ false
-never-true true h = absurd (h refl)
-never-true false h = refl
+never-true b = not-eq-not {b = false} .0
 
 -- a number of a list that fails a test
 record Failing (test : ℕ → Bool) (ns : List ℕ) : Type 0 where

@@ -2,7 +2,7 @@
 -- Assumes nothing.
 use Prim.Native.Nat.{ℕ, zero, suc, _+_, _-_, _*_, _≤_, _<_}
 use mathlib.Core.Path.{_≡_, refl, sym, ap, _∙_}
-use mathlib.Core.Bool.{Bool, true, false, cond, not, _&&_, _||_}
+use mathlib.Core.Bool.{Bool, true, false, cond, not, _&&_, _||_, and-true, and-false}
 use mathlib.Core.List.{List, [], _∷_, _++_, append-nil, append-assoc}
 use native.Mathlib.Omega.{arith}
 use borrow.Author.Tests.{eqb-true, eqb-false, lt-ltb, not-true, not-false}
@@ -121,15 +121,15 @@ set-some file main (suc n) i e = go (liveAt file n && sameBytes (mainAt file n) 
         record { inside = omega (arith, known .inside); alive = known .alive; under = known .under; splits = set-last file main n ∙ rw s (append-nil (setTo file main n) ∙ known .splits) }
 
 -- the records of a set among the first k come first
-pub record From (front whole : List (List ℕ)) : Type 0 where
+pub record Begins (front whole : List (List ℕ)) : Type 0 where
   pub rest : List (List ℕ)
   pub splits : whole ≡ front ++ rest
 
-pub set-front : (file main : List ℕ) (k n : ℕ) → k ≤ n → From (setTo file main k) (setTo file main n)
+pub set-front : (file main : List ℕ) (k n : ℕ) → k ≤ n → Begins (setTo file main k) (setTo file main n)
 set-front file main k zero h = let e : k ≡ 0 = omega arith in rw e record { rest = []; splits = sym (append-nil (setTo file main 0)) }
 set-front file main k (suc n) h = go (eqb k (suc n)) refl (set-front file main k n)
   where
-    go : (t : Bool) → eqb k (suc n) ≡ t → (k ≤ n → From (setTo file main k) (setTo file main n)) → From (setTo file main k) (setTo file main (suc n))
+    go : (t : Bool) → eqb k (suc n) ≡ t → (k ≤ n → Begins (setTo file main k) (setTo file main n)) → Begins (setTo file main k) (setTo file main (suc n))
     go true e before = rw (eqb-true k (suc n) e) record { rest = []; splits = sym (append-nil (setTo file main (suc n))) }
     go false e before =
         let other = eqb-false k (suc n) e in
@@ -199,19 +199,7 @@ look-end file last pieces at said seen z known = record {
 -- ---- all_marked
 marked-last : (seen : List ℕ) (k : ℕ) → allMarked seen (suc k) ≡ (allMarked seen k && isMarked seen (suc k))
 unfolding allMarked upTo every
-marked-last seen k = every-append (isMarked seen) (upTo suc k) (suc k ∷ []) ∙ last-and (allMarked seen k) (isMarked seen (suc k))
-  where
-    last-and : (a b : Bool) → (a && (b && true)) ≡ (a && b)
-    last-and a true = refl
-    last-and a false = refl
-
-and-false : (a : Bool) → (a && false) ≡ false
-and-false true = refl
-and-false false = refl
-
-and-true : (a : Bool) → (a && true) ≡ a
-and-true true = refl
-and-true false = refl
+marked-last seen k = every-append (isMarked seen) (upTo suc k) (suc k ∷ []) ∙ ap (λ (b : Bool). allMarked seen k && b) (and-true (isMarked seen (suc k)))
 
 -- the serials above k are marked
 pub record MarkedAbove (seen : List ℕ) (n k : ℕ) : Type 0 where

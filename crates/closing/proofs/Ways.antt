@@ -2,12 +2,11 @@
 -- Assumes nothing.
 use Prim.Native.Nat.{ℕ, zero, suc, _+_, _-_, _*_, _≤_, _<_}
 use mathlib.Core.Path.{_≡_, refl, sym, ap, _∙_}
-use mathlib.Core.Bool.{Bool, true, false, not, _&&_}
+use mathlib.Core.Bool.{Bool, true, false, not, and-true, and-false}
 use mathlib.Core.List.{List}
 use native.Mathlib.Numerals.{add-one}
 use native.Mathlib.Omega.{arith}
-use borrow.Author.Tests.{eqb-true, eqb-false, not-true, not-false}
-use lib.Dec.{eqb}
+use borrow.Author.Tests.{not-true, not-false}
 use lib.ListN.{length, getD}
 use Rattle.text.specs.Bytes.{isBlank}
 use Rattle.text.proofs.Booleans.{both}
@@ -23,6 +22,7 @@ use Rattle.posting.proofs.FirstBreak.{accepted-exactly}
 use Rattle.closing.specs.Sets.{mainOf, countIn, inSet, setUnder, offence}
 use Rattle.closing.specs.Closing.{recordsOf, placeOf, closingOf, closingAnswer}
 use Rattle.closing.specs.Links.{mainAt, liveAt, lastLive, liveFrom, Linked, WholeRecords, NoneInSet, AllLinked, ToLink, Judged, WholeBefore}
+use Rattle.closing.proofs.Below.{below-more}
 use Rattle.closing.proofs.FirstOf.{place-in-set, place-alone, whole-more, closing-none, closing-first, refusal-stands, sets-asked}
 use Rattle.closing.proofs.LinkWays.{last-seek, linked-below}
 use Rattle.closing.proofs.SetWays.{LastOf, set-some, first-says}
@@ -34,19 +34,11 @@ module _ (rec f : List ℕ) (b : Bool) (ef : f ≡ fieldOf rec 22) (eb : b ≡ i
 
   pub in-none : b ≡ true → false ≡ inSet rec
   unfolding inSet
-  in-none t = rw (blank-is, t) (go (isLive (readStatus (fieldOf rec 19))))
-    where
-      go : (l : Bool) → false ≡ (l && false)
-      go true = refl
-      go false = refl
+  in-none t = rw (blank-is, t) (sym (and-false (isLive (readStatus (fieldOf rec 19)))))
 
   pub in-live : b ≡ false → (l : Bool) → l ≡ isLive (readStatus (fieldOf rec 19)) → l ≡ inSet rec
   unfolding inSet
-  in-live t l el = el ∙ rw (blank-is, t) (go (isLive (readStatus (fieldOf rec 19))))
-    where
-      go : (l : Bool) → l ≡ (l && true)
-      go true = refl
-      go false = refl
+  in-live t l el = el ∙ rw (blank-is, t) (sym (and-true (isLive (readStatus (fieldOf rec 19)))))
 
 -- ---- any_in_set
 -- none of the first i records is in a set
@@ -57,11 +49,7 @@ pub none-yet : (file : List ℕ) → NoneTo file 0
 none-yet file = record { each = λ j h. absurd (omega arith) }
 
 pub none-on : (file rec : List ℕ) (i : ℕ) (b : Bool) → NoneTo file i → rec ≡ recordAt file i → b ≡ inSet rec → b ≡ false → NoneTo file (i + 1)
-none-on file rec i b known er eb n = record { each = λ j h. go j h (eqb j i) refl }
-  where
-    go : (j : ℕ) → j < i + 1 → (t : Bool) → eqb j i ≡ t → inSet (recordAt file j) ≡ false
-    go j h true e = rw (eqb-true j i e, ← er) (sym eb ∙ n)
-    go j h false e = let other = eqb-false j i e in known .each j (omega arith)
+none-on file rec i b known er eb n = record { each = rw add-one (below-more (λ j. inSet (recordAt file j) ≡ false) i (known .each) (rw (← er) (sym eb ∙ n))) }
 
 pub none-all : (file : List ℕ) (i : ℕ) → NoneTo file i → recordsIn file ≤ i → _≡_ {A = Bool} false false → NoneInSet file
 none-all file i known h told j l = known .each j (omega arith)
@@ -137,9 +125,9 @@ module _ (file rec : List ℕ) (i : ℕ) (er : rec ≡ recordAt file i) (b : Boo
 pub whole-on : (file : List ℕ) (i place : ℕ) → WholeBefore file i → place ≡ placeOf (recordsOf file) (recordAt file i) → place ≡ 0 → WholeBefore file (i + 1)
 whole-on file i place known e z = rw add-one (whole-more file i known (sym e ∙ z))
 
-pub offence-named : (good : FileAnswer) (file : List ℕ) (i place : ℕ) (r : FileAnswer) → i < recordsIn file → WholeBefore file i → place ≡ placeOf (recordsOf file) (recordAt file i)
+pub refused-first : (good : FileAnswer) (file : List ℕ) (i place : ℕ) (r : FileAnswer) → i < recordsIn file → WholeBefore file i → place ≡ placeOf (recordsOf file) (recordAt file i)
     → (place ≡ 0 → ⊥) → r ≡ refused 240 (i + 1) place → r ≡ closingOf good (recordsOf file)
-offence-named good file i place r inside known e some er =
+refused-first good file i place r inside known e some er =
     er ∙ ap (refused 240 (i + 1)) e ∙ sym (closing-first good file i inside known (λ z. some (e ∙ z)))
 
 pub none-offends : (good : FileAnswer) (file : List ℕ) (i : ℕ) → WholeBefore file i → recordsIn file ≤ i → good ≡ closingOf good (recordsOf file)

@@ -6,7 +6,7 @@ use Prim.Native.Nat.{_-_, _≤_}
 use Rattle.posting.specs.File.{recordsIn}
 use Rattle.closing.specs.Links.{WholeBefore}
 use Rattle.closing.proofs.FirstOf.{whole-start}
-use Rattle.closing.proofs.Ways.{whole-on, offence-named, none-offends}
+use Rattle.closing.proofs.Ways.{whole-on, refused-first, none-offends}
 use Rattle.closing.proofs.first_offence.Statement.{statement}
 use Rattle.closing.proofs.first_offence.Tie as tie
 
@@ -32,7 +32,7 @@ set-refused-requires : tie.Need-set-refused-requires Inv-loop μ-loop
 set-refused-requires c κs = search needs
 
 returns : tie.Need-returns Inv-loop μ-loop
-returns c = search offence-named
+returns c = search refused-first
 
 add-i : tie.Need-add-i Inv-loop μ-loop
 add-i c = search needs
