@@ -480,7 +480,7 @@ static inline struct answer judge(const uint8_t *record, const struct consignmen
     if (place != 0)
         return (struct answer){27, place};
     if (it->grams == 0)
-        return (struct answer){34, 15};
+        return (struct answer){(services & SERVICE(41)) != 0 ? 31 : 34, 15};
     if (wrong_amount(on_delivery, it->cash_field, it->cash))
         return (struct answer){36, 16};
     if ((services & SERVICE(41)) != 0 && it->variable_symbol == ABSENT)

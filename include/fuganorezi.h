@@ -55,7 +55,8 @@ uint32_t fuganorezi_identifier_check(const uint8_t *bytes, size_t length);
  * 210      a field is malformed (the first such, 2 to 26).
  *  27      the name is blank (4); the postcode is blank and the address domestic, or filled and
  *          the address abroad (5); the municipality is blank (7).
- *  34 (15) the weight is blank or zero.
+ *  31 (15) the weight is blank or zero, with service 41.
+ *  34 (15) the weight is blank or zero, without service 41.
  *  36 (16) with service 2, 4, 5 or 41 the cash on delivery is blank or zero; or without them it is
  *          not blank.
  *  11 (21) service 41 without a variable symbol.

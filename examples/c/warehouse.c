@@ -77,6 +77,7 @@ static const struct rule rules[] = {
     {27, 4, "blank, and each consignment needs it"},
     {27, 5, "a domestic consignment needs it, and one abroad must leave it blank"},
     {27, 7, "blank, and each consignment needs it"},
+    {31, 0, "blank or zero, under service 41"},
     {34, 0, "blank or zero"},
     {36, 0, "services 2, 4, 5 and 41 need an amount above zero, and without them it must be blank"},
     {11, 0, "service 41 needs it"},

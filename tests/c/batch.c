@@ -326,7 +326,8 @@ static void ask_refusals(void)
     ask_refused("wrong identifier", 0, &b, CANCEL, (const uint8_t *)"BO0800000026F", IDENTIFIER, 1, 1);
     ask_refused_record(&b, 1, 1, "BO0800000026F", 1);
     ask_refused_record(&b, 1, 2, "20230229", 210);
-    ask_refused_record(&b, 1, 15, " 0.000", 34);
+    ask_refused_record(&b, 1, 15, " 0.000", 31);
+    ask_refused_record(&b, 3, 15, " 0.000", 34);
     ask_refused_record(&b, 1, 19, "0", 210);
     ask_refused("there already", 0, &b, ADD, record, RECORD, 2, 1);
     ask_refused("cancelled", 0, &b, AMEND, record, RECORD, 233, 0);

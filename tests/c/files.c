@@ -43,13 +43,15 @@ static void ask_repeated(uint8_t *file, unsigned records, unsigned earlier)
     put_good_record(last, records);
 }
 
-/* The last of the most records broken, in three ways: the totals of those before it are not told. */
+/* The last of the most records broken, in four ways: the totals of those before it are not told. */
 static void ask_broken_last(uint8_t *file)
 {
     const size_t length = (size_t)MOST_RECORDS * GOOD_STEP;
     uint8_t *last = file + length - GOOD_STEP;
     put_field(last, 15, "      ");
     ask_refused("last record without weight", file, length, 34, MOST_RECORDS, 15);
+    put_field(last, 18, "41+45");
+    ask_refused("last record without weight under service 41", file, length, 31, MOST_RECORDS, 15);
     put_field(last, 1, "?");
     ask_refused("last record without identifier", file, length, 1, MOST_RECORDS, 1);
     last[GOOD_STEP - 1] = ' ';

@@ -4,7 +4,7 @@ use Prim.Native.Nat.{ℕ}
 use mathlib.Core.Path.{_≡_, refl}
 use mathlib.Core.Bool.{Bool, true, false, cond}
 use mathlib.Core.List.{List, [], _∷_, _++_, map}
-use borrow.Author.Tests.{eq-eqb}
+use borrow.Author.Tests.{eq-eqb, eqb-false}
 use lib.Dec.{eqb}
 use Rattle.text.proofs.Booleans.{clash}
 use Rattle.record.specs.Table.{Rule, codeOf}
@@ -25,6 +25,19 @@ none-zero toBePosted rec = rw (codes-in-order toBePosted rec)
 -- one that is there is not one that it lacks
 pub lacks-other : (c x : ℕ) (xs : List ℕ) → lacks x xs ≡ false → lacks c xs ≡ true → x ≡ c → ⊥
 lacks-other c x xs there none e = clash none (rw e at there)
+
+-- what is lacking in a list is neither its first nor in the rest
+pub record Lacking (c x : ℕ) (xs : List ℕ) : Type 0 where
+  pub first : x ≡ c → ⊥
+  pub rest : lacks c xs ≡ true
+
+pub lacking : (c x : ℕ) (xs : List ℕ) → lacks c (x ∷ xs) ≡ true → Lacking c x xs
+unfolding lacks
+lacking c x xs l = go (eqb x c) refl l
+  where
+    go : (t : Bool) → eqb x c ≡ t → cond t false (lacks c xs) ≡ true → Lacking c x xs
+    go true e h = absurd (clash h refl)
+    go false e h = record { first = eqb-false x c e; rest = h }
 
 pub lacks-behind : (c x : ℕ) (xs : List ℕ) → lacks c xs ≡ false → lacks c (x ∷ xs) ≡ false
 unfolding lacks

@@ -4,3 +4,5 @@ pub mod Ways
 pub mod Order
 pub mod Status
 pub mod Codes
+pub mod Turns
+pub mod WeightCodes

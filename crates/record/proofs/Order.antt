@@ -6,11 +6,11 @@ use mathlib.Core.Path.{_≡_, refl, sym, ap, _∙_}
 use mathlib.Core.Bool.{Bool, true, false, cond, _||_}
 use mathlib.Core.List.{List, [], _∷_, _++_, map}
 use mathlib.Core.Logic.{_↔_}
-use borrow.Author.Tests.{eq-eqb, ne-eqb, eqb-true, eqb-false}
+use borrow.Author.Tests.{eq-eqb}
 use lib.Dec.{eqb}
 use lib.ListN.{length}
 use Rattle.text.specs.declared.Answer.{Answer}
-use Rattle.text.specs.Answers.{answer, accepted}
+use Rattle.text.specs.Answers.{answer, accepted, wrongLength}
 use Rattle.text.proofs.Booleans.{clash}
 use Rattle.record.specs.Table.{Case, Rule, firstCase, firstRule, verdict, anyCase, broken, codeOf}
 use Rattle.record.specs.Rules.{table, recordAnswer}
@@ -19,11 +19,11 @@ use Rattle.record.specs.Outcomes.{noCase, noneBroken, FirstCase, FirstBr
 use Rattle.record.proofs.Codes.{codes-in-order, lacks-other, lacks-behind, lacks-there, none-zero}
 
 -- ---- one rule
-data Judged (c : ℕ) (ks : List Case) (b r : Answer) : Type 0 where
+pub data Judged (c : ℕ) (ks : List Case) (b r : Answer) : Type 0 where
   passes : anyCase ks ≡ false → r ≡ b → Judged c ks b r
   breaks : anyCase ks ≡ true → FirstCase c ks r → Judged c ks b r
 
-judge-case : (c : ℕ) (ks : List Case) (b : Answer) → Judged c ks b (firstCase c ks b)
+pub judge-case : (c : ℕ) (ks : List Case) (b : Answer) → Judged c ks b (firstCase c ks b)
 unfolding noCase
 judge-case c [] b = passes refl refl
 judge-case c (k ∷ ks) b = go (k .when) refl (judge-case c ks b)
@@ -66,24 +66,29 @@ accepted-exactly toBePosted rec e = go (record-outcome toBePosted rec e) (none-z
     )
 
 -- ---- and no other code than those of `recordCodes`
-other-length : (toBePosted : Bool) (rec : List ℕ) → (length rec ≡ 399 → ⊥) → recordAnswer toBePosted rec .code ≡ 236
-unfolding recordAnswer
-other-length toBePosted rec n = rw (ne-eqb (length rec) 399 n)
+-- a table gives 0 or one of its codes
+table-code : (rs : List Rule) → lacks (verdict rs .code) (0 ∷ map codeOf rs) ≡ false
+unfolding lacks
+table-code rs = go (outcome rs)
+  where
+    go : {a : Answer} → TableOutcome rs a → lacks (a .code) (0 ∷ map codeOf rs) ≡ false
+    go (good g e) = rw e
+    go (bad g f) =
+        rw (ap (λ (x : Answer). x .code) (f .case .says))
+        (lacks-behind (f .here .code) 0 (map codeOf rs) (rw (f .split) (lacks-there (f .before) (f .here) (f .after))))
+
+pub none-other : (c : ℕ) (rs : List Rule) → lacks c (0 ∷ map codeOf rs) ≡ true → verdict rs .code ≡ c → ⊥
+none-other c rs l z = lacks-other c (verdict rs .code) (0 ∷ map codeOf rs) (table-code rs) l z
 
 pub code-known : (toBePosted : Bool) (rec : List ℕ) → lacks (recordAnswer toBePosted rec .code) recordCodes ≡ false
-unfolding lacks
-code-known toBePosted rec = go (eqb (length rec) 399) refl
+unfolding lacks recordAnswer
+code-known toBePosted rec = go (eqb (length rec) 399)
   where
-    in-table : (c : ℕ) → lacks c (map codeOf (table toBePosted rec)) ≡ false → lacks c recordCodes ≡ false
-    in-table c there = lacks-behind c 0 (236 ∷ tableCodes) (lacks-behind c 236 tableCodes (rw (codes-in-order toBePosted rec) at there))
-
-    judged : {a : Answer} → TableOutcome (table toBePosted rec) a → lacks (a .code) recordCodes ≡ false
-    judged (good g e) = rw e
-    judged (bad g f) = rw (ap (λ (x : Answer). x .code) (f .case .says)) (in-table (f .here .code) (rw (f .split) (lacks-there (f .before) (f .here) (f .after))))
-
-    go : (t : Bool) → eqb (length rec) 399 ≡ t → lacks (recordAnswer toBePosted rec .code) recordCodes ≡ false
-    go true e = judged (record-outcome toBePosted rec (eqb-true _ 399 e))
-    go false e = rw (other-length toBePosted rec (eqb-false _ 399 e))
+    go : (t : Bool) → lacks (cond t (verdict (table toBePosted rec)) wrongLength .code) recordCodes ≡ false
+    go true =
+        let c = verdict (table toBePosted rec) .code in
+        lacks-behind c 236 (0 ∷ tableCodes) (ap (λ (cs : List ℕ). lacks c (0 ∷ cs)) (sym (codes-in-order toBePosted rec)) ∙ table-code (table toBePosted rec))
+    go false = refl
 
 pub no-other-code : (toBePosted : Bool) (rec : List ℕ) (c : ℕ) → lacks c recordCodes ≡ true → recordAnswer toBePosted rec .code ≡ c → ⊥
 no-other-code toBePosted rec c l z = lacks-other c (recordAnswer toBePosted rec .code) recordCodes (code-known toBePosted rec) l z

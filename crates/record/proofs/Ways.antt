@@ -28,7 +28,7 @@ use Rattle.fields.specs.Dates.{malformedDate, malformedTime}
 use Rattle.fields.specs.Texts.{malformedText, absentText}
 use Rattle.fields.specs.Numbers.{malformedNumber, absentNumber, numberIn}
 use Rattle.fields.specs.Others.{malformedCountry, absentCountry, malformedEmpty, malformedMain, absentMain}
-use Rattle.fields.specs.Amounts.{malformedWeight, absentOrZeroWeight, malformedMoney, absentMoney, absentOrZeroMoney}
+use Rattle.fields.specs.Amounts.{malformedWeight, malformedMoney, absentMoney, absentOrZeroMoney}
 use Rattle.fields.specs.Services.{hasCode, malformedServices, servicesIn}
 use Rattle.record.specs.declared.readings.Address.{Address}
 use Rattle.record.specs.declared.readings.Street.{Street}
@@ -41,10 +41,10 @@ use Rattle.record.specs.declared.readings.When.{When}
 use Rattle.record.specs.declared.rules.Asked.{Asked}
 use Rattle.record.specs.declared.rules.Given.{Given}
 use Rattle.record.specs.declared.rules.Travel.{Travel}
-use Rattle.record.specs.Table.{Case, Rule, at, rule, placesFrom, firstCase, firstRule, verdict}
+use Rattle.record.specs.Table.{verdict}
 use Rattle.record.specs.Columns.{whens, codeColumn, placeColumn, firstTrue}
 use Rattle.record.specs.Readings.{whenOf, addressOf, streetOf, contactOf, goodsOf, marksOf, pieceOf, tailOf, malformedStatus}
-use Rattle.record.specs.Rules.{whenFlags, addressFlags, streetFlags, contactFlags, goodsFlags, marksFlags, pieceFlags, tailFlags, earlyFlags, lateFlags, malformed, malformedRule, askedOf, givenOf, isSetPrefix, travelOf, identifierRule, formOf, formRules, addressRule, weightRule, serviceRules, contentOf, contentRules, table, recordAnswer}
+use Rattle.record.specs.Rules.{whenFlags, addressFlags, streetFlags, contactFlags, goodsFlags, marksFlags, pieceFlags, tailFlags, earlyFlags, lateFlags, malformed, malformedRule, askedOf, askedIn, givenOf, isSetPrefix, travelOf, identifierRule, formOf, formRules, addressRule, weightRules, serviceRules, contentOf, contentRules, table, recordAnswer}
 use Rattle.record.proofs.Tables.{Malformed, groups-join, lowest, no-lowest, by-columns, rule-then, table-then}
 
 -- ---- the first true
@@ -158,19 +158,22 @@ module _ (a : Address) (h n : Bool) (eh : h ≡ absentCountry (a .country)) (en 
     pub placed : x ≡ false → (h && n || not h && not n) ≡ false → y ≡ false → accepted ≡ verdict (addressRule a ∷ [])
     placed t g u = rw (← ex, t, ← eh, ← en, g, ← ey, u)
 
-abbrev WeightVerdict : WeightReading → Answer
-WeightVerdict w = verdict (rule 34 (at 15 (absentOrZeroWeight w) ∷ []) ∷ [])
+pub weightless-41 : (s : Bool) → s ≡ true → answer 31 15 ≡ verdict (weightRules Weight.Absent s)
+weightless-41 s e = rw e
 
-pub weightless : (w : WeightReading) → OneOf (0 ∷ 2 ∷ []) (tagOf Weights.the-type w) → answer 34 15 ≡ WeightVerdict w
-weightless Weight.Absent t = refl
-weightless (Weight.Value g) t = absurd (⊎-elim (λ (e : _≡_ {A = ℕ} 1 0). omega arith) (λ (e : _≡_ {A = ℕ} 1 2). omega arith) t)
-weightless Weight.Malformed t = refl
+pub weightless-other : (s : Bool) → s ≡ false → answer 34 15 ≡ verdict (weightRules Weight.Absent s)
+weightless-other s e = rw e
 
-pub weight-zero : (w : WeightReading) (g : Grams) → w ≡ Weight.Value g → g .0 ≡ 0 → answer 34 15 ≡ WeightVerdict w
-weight-zero w g e z = rw (e, eq-eqb (g .0) 0 z)
+pub weight-none : (w : WeightReading) (s : Bool) (r : Answer) → OneOf (0 ∷ 2 ∷ []) (tagOf Weights.the-type w) → r ≡ verdict (weightRules Weight.Absent s) → r ≡ verdict (weightRules w s)
+weight-none Weight.Absent s r t e = e
+weight-none (Weight.Value g) s r t e = absurd (⊎-elim (λ (e : _≡_ {A = ℕ} 1 0). omega arith) (λ (e : _≡_ {A = ℕ} 1 2). omega arith) t)
+weight-none Weight.Malformed s r t e = e
 
-pub weight-some : (w : WeightReading) (g : Grams) → w ≡ Weight.Value g → (g .0 ≡ 0 → ⊥) → accepted ≡ WeightVerdict w
-weight-some w g e n = rw (e, ne-eqb (g .0) 0 n)
+pub weight-zero : (w : WeightReading) (g : Grams) (s : Bool) (r : Answer) → w ≡ Weight.Value g → g .0 ≡ 0 → r ≡ verdict (weightRules Weight.Absent s) → r ≡ verdict (weightRules w s)
+weight-zero w g s r e z h = rw (e, eq-eqb (g .0) 0 z) h
+
+pub weight-some : (w : WeightReading) (g : Grams) (s : Bool) → w ≡ Weight.Value g → (g .0 ≡ 0 → ⊥) → accepted ≡ verdict (weightRules w s)
+weight-some w g s e n = rw (e, ne-eqb (g .0) 0 n)
 
 -- ---- money and services
 pub asked-is : (s : Services) (s2 s4 s5 s7 s34 s41 s45 s46 s70 : Bool)
@@ -206,12 +209,14 @@ services-judged s f p flags i e g = by-columns (serviceRules s f p) i (g .0 ∙ 
 -- ---- stage behind stage
 pub content-is : (rec : List ℕ) (a : Address) (c : Contact) (g : Goods) (m : Marks) (p : Piece) (v : Services) (q : Asked) (f : Given) (t : Travel) (a1 a2 a3 r2 r1 : Answer)
     → v ≡ servicesIn (g .services) → q ≡ askedOf v → f ≡ givenOf c g m → t ≡ travelOf rec p → a3 ≡ verdict (serviceRules q f t)
-    → a2 ≡ WeightVerdict (g .weight) → r2 ≡ orElse a2 a3 → a1 ≡ verdict (addressRule a ∷ []) → r1 ≡ orElse a1 r2
+    → a2 ≡ verdict (weightRules (g .weight) (q .service41)) → r2 ≡ orElse a2 a3 → a1 ≡ verdict (addressRule a ∷ []) → r1 ≡ orElse a1 r2
     → r1 ≡ verdict (contentOf rec a c g m p)
 content-is rec a c g m p v q f t a1 a2 a3 r2 r1 ev eq ef et e3 e2 g2 e1 g1 =
-    let services : a3 ≡ verdict (serviceRules (askedOf (servicesIn (g .services))) (givenOf c g m) (travelOf rec p)) = e3 ∙ rw (eq, ev, ef, et) in
-    let weight : r2 ≡ verdict (weightRule g ∷ serviceRules (askedOf (servicesIn (g .services))) (givenOf c g m) (travelOf rec p)) = g2 ∙ rw (e2, services) (rule-then (weightRule g) (serviceRules (askedOf (servicesIn (g .services))) (givenOf c g m) (travelOf rec p)) (λ e. omega arith)) in
-    g1 ∙ rw (e1, weight) (rule-then (addressRule a) (weightRule g ∷ serviceRules (askedOf (servicesIn (g .services))) (givenOf c g m) (travelOf rec p)) (λ e. omega arith))
+    let asked : q ≡ askedIn g = eq ∙ ap askedOf ev in
+    let weight = weightRules (g .weight) (askedIn g .service41) in
+    let services = serviceRules (askedIn g) (givenOf c g m) (travelOf rec p) in
+    let rest : r2 ≡ verdict (weight ++ services) = g2 ∙ rw (e2, e3, asked, ef, et) (table-then weight services (λ e. omega arith, (λ e. omega arith, tt))) in
+    g1 ∙ rw (e1, rest) (rule-then (addressRule a) (weight ++ services) (λ e. omega arith))
 
 pub record-judged : (toBePosted : Bool) (rec : List ℕ) (a : Address) (c : Contact) (g : Goods) (m : Marks) (p : Piece) (form content r : Answer)
     → a ≡ addressOf rec → c ≡ contactOf rec → g ≡ goodsOf rec → m ≡ marksOf rec → p ≡ pieceOf rec

@@ -7,11 +7,11 @@ use lib.Dec.{eqb}
 
 -- the table's, in its order
 abbrev pub tableCodes : List ℕ
-tableCodes = 1 ∷ 210 ∷ 27 ∷ 34 ∷ 36 ∷ 11 ∷ 221 ∷ 222 ∷ 220 ∷ 223 ∷ 72 ∷ []
+tableCodes = 1 ∷ 210 ∷ 27 ∷ 31 ∷ 34 ∷ 36 ∷ 11 ∷ 221 ∷ 222 ∷ 220 ∷ 223 ∷ 72 ∷ []
 
--- and 0 for a good record, 236 for another length than 399
+-- and 236 for another length than 399, 0 for a good record
 abbrev pub recordCodes : List ℕ
-recordCodes = 0 ∷ 236 ∷ tableCodes
+recordCodes = 236 ∷ 0 ∷ tableCodes
 
 -- c is none of these
 unfoldable pub lacks : ℕ → List ℕ → Bool

@@ -1,4 +1,4 @@
--- Records that pass, computed over the definitions: so the table does not refuse everything.
+-- Records that pass, computed over the definitions: so the table does not refuse everything. And the two codes of a missing weight.
 -- Assumes nothing.
 use Prim.Native.Nat.{ℕ}
 use Prim.Native.String.{String}
@@ -71,6 +71,12 @@ secondPiece =
     recordOf
     ("BO0100010005F" ∷ "20240101" ∷ "08:00:00" ∷ "Eva" ∷ "60200" ∷ "" ∷ "Brno" ∷ "" ∷ "" ∷ "" ∷ "" ∷ "" ∷ "" ∷ "" ∷ " 0.001" ∷ "" ∷ "" ∷ "70" ∷ "" ∷ "" ∷ "" ∷ "BO5412345671F" ∷ "02" ∷ "03" ∷ [])
 
+-- a weight of zero, with this cash on delivery, these services and this variable symbol
+unfoldable pub weighingNothing : String → String → String → List ℕ
+weighingNothing cash services symbol =
+    recordOf
+    ("BO5412345671F" ∷ "20240101" ∷ "08:00:00" ∷ "Eva" ∷ "60200" ∷ "" ∷ "Brno" ∷ "" ∷ "" ∷ "" ∷ "" ∷ "" ∷ "" ∷ "" ∷ " 0.000" ∷ cash ∷ "" ∷ services ∷ "" ∷ "" ∷ symbol ∷ [])
+
 unfoldable pub cancelledParcel : List ℕ
 cancelledParcel = parcel "BO0100010045F" "Eva" "0 "
 
@@ -88,8 +94,10 @@ claims =
     ∷ answers 0 0 (recordAnswer true secondPiece)
     ∷ answers 0 0 (recordAnswer false cancelledParcel)
     ∷ answers 210 19 (recordAnswer true cancelledParcel)
+    ∷ answers 31 15 (recordAnswer true (weighingNothing "10.00" "41" "0000000001"))
+    ∷ answers 34 15 (recordAnswer true (weighingNothing "10.00" "2" ""))
     ∷ []
 
 pub shown : allHold claims ≡ true
-unfolding bytes allHold every run numberAfter sameBytes shapeOf weighted endsRight rightId partsOf fieldOf framed daysIn readDate readTime filled contains isHost isMail isMoney codesFrom hasCode withCode added readServices askedOf givenOf travelOf table recordAnswer inField laidOut recordOf parcel domestic abroad cashOnDelivery firstPiece firstPieceWrittenOut secondPiece cancelledParcel answers claims
+unfolding bytes allHold every run numberAfter sameBytes shapeOf weighted endsRight rightId partsOf fieldOf framed daysIn readDate readTime filled contains isHost isMail isMoney codesFrom hasCode withCode added readServices askedOf givenOf travelOf table recordAnswer inField laidOut recordOf parcel domestic abroad cashOnDelivery firstPiece firstPieceWrittenOut secondPiece cancelledParcel weighingNothing answers claims
 shown = refl

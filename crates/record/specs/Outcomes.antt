@@ -1,12 +1,18 @@
--- What a record's answer means, in the paper's words: 0 exactly if none of the conditions holds; otherwise the first that holds, with its place.
+-- What a record's answer means, in the paper's words: 0 exactly if none of the conditions holds; otherwise the first that holds, with its place. And
+-- when the weight is missing, for which there are two codes.
 -- Assumes nothing.
 use Prim.Native.Nat.{ℕ}
 use mathlib.Core.Path.{_≡_}
 use mathlib.Core.Bool.{Bool, true, false, cond}
 use mathlib.Core.List.{List, [], _∷_, _++_}
+use mathlib.Core.Logic.{_↔_}
+use lib.ListN.{length}
 use Rattle.text.specs.declared.Answer.{Answer}
 use Rattle.text.specs.Answers.{answer, accepted}
+use Rattle.fields.specs.Amounts.{absentOrZeroWeight}
 use Rattle.record.specs.Table.{Case, Rule, broken}
+use Rattle.record.specs.Readings.{addressOf, goodsOf}
+use Rattle.record.specs.Rules.{formRules, addressRule}
 
 -- ---- no case, no rule of a list holds
 unfoldable pub noCase : List Case → Bool
@@ -39,3 +45,14 @@ pub record FirstBroken (rs : List Rule) (a : Answer) : Type 0 where
 pub data TableOutcome (rs : List Rule) (a : Answer) : Type 0 where
   good : noneBroken rs ≡ true → a ≡ accepted → TableOutcome rs a
   bad : noneBroken rs ≡ false → FirstBroken rs a → TableOutcome rs a
+
+-- ---- one code: given exactly under this condition, and at no other place than this
+pub record ExactlyAt (code place : ℕ) (condition : Type 0) (a : Answer) : Type 0 where
+  pub when : (a .code ≡ code) ↔ condition
+  pub there : a .code ≡ code → a .place ≡ place
+
+-- ---- the weight is missing: 399 bytes that break no rule before its turn, and it is absent or zero
+pub record WeightMissing (toBePosted : Bool) (rec : List ℕ) : Type 0 where
+  pub long : length rec ≡ 399
+  pub its-turn : noneBroken (formRules toBePosted rec ++ addressRule (addressOf rec) ∷ []) ≡ true
+  pub missing : absentOrZeroWeight (goodsOf rec .weight) ≡ true

@@ -10,6 +10,7 @@ use Rattle.text.specs.Answers.{wrongLength}
 use Rattle.text.specs.Lists.{sameBytes}
 use Rattle.ident.specs.Identifier.{rightId}
 use Rattle.layout.specs.Layout.{fieldOf}
+use Rattle.fields.specs.declared.amounts.WeightReading.{WeightReading}
 use Rattle.fields.specs.declared.services.Services.{Services}
 use Rattle.fields.specs.Dates.{malformedDate, malformedTime}
 use Rattle.fields.specs.Texts.{malformedText, absentText}
@@ -83,6 +84,14 @@ askedOf s = record {
   service70 = hasCode s 70;
 }
 
+-- those of field 18, as it was read
+abbrev pub askedIn : Goods → Asked
+askedIn g = askedOf (servicesIn (g .services))
+
+-- the record asks for this service
+abbrev pub asksFor : List ℕ → ℕ → Bool
+asksFor rec n = hasCode (servicesIn (goodsOf rec .services)) n
+
 -- what stands in the fields that services ask for: 16, 17, 21, 12, 13
 unfoldable pub givenOf : Contact → Goods → Marks → Given
 givenOf c g m = record {
@@ -140,9 +149,12 @@ addressRule a =
     ∷ at 7 (absentText (a .municipality))
     ∷ [])
 
--- weight absent or zero
-abbrev pub weightRule : Goods → Rule
-weightRule g = rule 34 (at 15 (absentOrZeroWeight (g .weight)) ∷ [])
+-- weight absent or zero: 31 where service 41 is present, 34 otherwise
+abbrev pub weightRules : WeightReading → Bool → List Rule
+weightRules w service41 =
+    rule 31 (at 15 (absentOrZeroWeight w && service41) ∷ [])
+    ∷ rule 34 (at 15 (absentOrZeroWeight w && not service41) ∷ [])
+    ∷ []
 
 abbrev pub serviceRules : Asked → Given → Travel → List Rule
 serviceRules s f p =
@@ -170,12 +182,12 @@ serviceRules s f p =
 
 abbrev pub contentOf : List ℕ → Address → Contact → Goods → Marks → Piece → List Rule
 contentOf rec a c g m p =
-    addressRule a ∷ weightRule g ∷ serviceRules (askedOf (servicesIn (g .services))) (givenOf c g m) (travelOf rec p)
+    addressRule a ∷ weightRules (g .weight) (askedIn g .service41) ++ serviceRules (askedIn g) (givenOf c g m) (travelOf rec p)
 
 abbrev pub contentRules : List ℕ → List Rule
 contentRules rec = contentOf rec (addressOf rec) (contactOf rec) (goodsOf rec) (marksOf rec) (pieceOf rec)
 
--- all eleven rules, in the paper's order
+-- all twelve rules, in the paper's order
 unfoldable pub table : Bool → List ℕ → List Rule
 table toBePosted rec = formRules toBePosted rec ++ contentRules rec
 

@@ -3,11 +3,11 @@ ghost use mathlib.Core.Path.{_≡_};
 ghost use mathlib.Core.List.{[], _∷_};
 ghost use Prim.Native.Nat.{_+_, _<_};
 ghost use lib.ListN.{length, getD};
-ghost use Rattle.fields.specs.Amounts.{absentOrZeroWeight};
-ghost use Rattle.record.specs.Table.{at, rule, placesFrom, verdict};
+ghost use Rattle.fields.specs.declared.amounts.WeightReading.the-variants as Weight;
+ghost use Rattle.record.specs.Table.{rule, placesFrom, verdict};
 ghost use Rattle.record.specs.Columns.{whens};
 ghost use Rattle.record.specs.Readings.{whenOf, streetOf, tailOf, malformedStatus};
-ghost use Rattle.record.specs.Rules.{whenFlags, addressFlags, streetFlags, contactFlags, goodsFlags, marksFlags, pieceFlags, tailFlags, earlyFlags, lateFlags, askedOf, givenOf, isSetPrefix, travelOf, identifierRule, formOf, contentOf, addressRule, serviceRules};
+ghost use Rattle.record.specs.Rules.{whenFlags, addressFlags, streetFlags, contactFlags, goodsFlags, marksFlags, pieceFlags, tailFlags, earlyFlags, lateFlags, askedOf, givenOf, isSetPrefix, travelOf, identifierRule, formOf, contentOf, addressRule, weightRules, serviceRules};
 use crate::columns::first_true;
 use crate::readings::Address;
 use crate::readings::Contact;
@@ -202,7 +202,7 @@ pub(crate) fn form_answer(
     identifier_answer(rec).or_else(rest)
 }
 
-// ---- 27 and 34: address and weight
+// ---- 27, 31 and 34: address and weight
 
 // Code 27: name, postcode or municipality, blank or filled where they may not be.
 fn address_answer(a: Address) -> Answer
@@ -226,19 +226,26 @@ fn address_answer(a: Address) -> Answer
     ACCEPTED
 }
 
-const WEIGHTLESS: Answer = Answer {
-    code: 34,
-    place: 15,
-};
+// The refusal of a missing weight: it has a code of its own under service 41.
+fn weightless(service41: bool) -> Answer
+    ensures { λ r. ⌜ r ≡ verdict (weightRules Weight.Absent service41) ⌝ }
+{
+    let code = if service41 { 31 } else { 34 };
+    Answer { code, place: 15 }
+}
 
-// Code 34: weight absent or zero.
-fn weight_answer(weight: WeightReading) -> Answer
-    ensures { λ r. ⌜ r ≡ verdict (rule 34 (at 15 (absentOrZeroWeight weight) ∷ []) ∷ []) ⌝ }
+// Codes 31 and 34: weight absent or zero.
+fn weight_answer(weight: WeightReading, service41: bool) -> Answer
+    ensures { λ r. ⌜ r ≡ verdict (weightRules weight service41) ⌝ }
 {
     let WeightReading::Value(grams) = weight else {
-        return WEIGHTLESS;
+        return weightless(service41);
     };
-    if grams.0 == 0 { WEIGHTLESS } else { ACCEPTED }
+    if grams.0 == 0 {
+        weightless(service41)
+    } else {
+        ACCEPTED
+    }
 }
 
 // ---- 36 to 72: money and services. The fields are named as the rules have them.
@@ -455,11 +462,12 @@ pub(crate) fn content_answer(
     let weight = goods.weight;
     let services = goods.services;
     let asked = asked_of(services.services());
+    let service41 = asked.service41;
     let last = service_answer(
         asked,
         given_of(contact, goods, marks),
         travel_of(rec, piece),
     );
-    let rest = weight_answer(weight).or_else(last);
+    let rest = weight_answer(weight, service41).or_else(last);
     address_answer(address).or_else(rest)
 }

@@ -1,16 +1,21 @@
 -- `record::rules::weight_answer` meets its contract.
 -- Assumes nothing.
 use borrow.Author.Needs.{needs}
-use Rattle.record.proofs.Ways.{weightless, weight-zero, weight-some}
-use borrow.Author.Needs.{needs}
+use Rattle.record.proofs.Ways.{weight-none, weight-zero, weight-some}
 use Rattle.record.proofs.rules.weight_answer.Statement.{statement}
 use Rattle.record.proofs.rules.weight_answer.Tie as tie
 
 enum-known-weight : tie.Need-enum-known-weight
 enum-known-weight c = search needs
 
+weightless-requires : tie.Need-weightless-requires
+weightless-requires c κs = search needs
+
 returns : tie.Need-returns
-returns c = weightless (c .before .args .weight) (c .match .keys2)
+returns c = search weight-none
+
+weightless-requires-2 : tie.Need-weightless-requires-2
+weightless-requires-2 c κs = search needs
 
 returns-2 : tie.Need-returns-2
 returns-2 c = search weight-zero
@@ -19,4 +24,12 @@ returns-3 : tie.Need-returns-3
 returns-3 c = search weight-some
 
 pub weight-answer-spec : {M : Type 1} → statement M
-weight-answer-spec = tie.close (tie.spec enum-known-weight returns returns-2 returns-3)
+weight-answer-spec =
+    tie.close
+    (tie.spec
+    enum-known-weight
+    weightless-requires
+    returns
+    weightless-requires-2
+    returns-2
+    returns-3)

@@ -1,0 +1,88 @@
+-- One row of a table in its turn, over any table: exactly when its code is given, and which answers move when it is made two.
+-- Assumes nothing.
+use Prim.Native.Nat.{ℕ}
+use mathlib.Core.Path.{_≡_, refl, sym, ap, _∙_}
+use mathlib.Core.Bool.{Bool, true, false, cond, not, _&&_}
+use mathlib.Core.List.{List, [], _∷_, _++_, map}
+use mathlib.Core.Logic.{_↔_}
+use borrow.Author.Tests.{eq-eqb, ne-eqb, eqb-true, eqb-false}
+use lib.Dec.{eqb}
+use Rattle.text.specs.declared.Answer.{Answer}
+use Rattle.text.specs.Answers.{answer}
+use Rattle.text.proofs.Booleans.{clash}
+use Rattle.record.specs.Table.{Case, Rule, at, rule, firstCase, verdict, broken, codeOf}
+use Rattle.record.specs.Codes.{lacks}
+use Rattle.record.specs.Outcomes.{noneBroken, ExactlyAt}
+use Rattle.record.proofs.Codes.{Lacking, lacking}
+use Rattle.record.proofs.Order.{Judged, passes, breaks, judge-case, none-other}
+
+-- a code that does not come, for a condition that does not hold
+pub never-given : {c p : ℕ} {condition : Type 0} {a : Answer} → (a .code ≡ c → ⊥) → (condition → ⊥) → ExactlyAt c p condition a
+never-given n m = record { when = (λ z. absurd (n z), λ h. absurd (m h)); there = λ z. absurd (n z) }
+
+-- ---- a row with one case: its code is given exactly if no row before it is broken and its case holds, and then at its place
+pub case-exactly : (before : List Rule) (c p : ℕ) (b : Bool) (after : List Rule) → lacks c (map codeOf before) ≡ true → lacks c (0 ∷ map codeOf after) ≡ true
+    → ExactlyAt c p ((noneBroken before ≡ true) × (b ≡ true)) (verdict (before ++ rule c (at p b ∷ []) ∷ after))
+unfolding noneBroken
+case-exactly [] c p true after first later = record { when = (λ z. (refl, refl), λ h. refl); there = λ z. refl }
+case-exactly [] c p false after first later = never-given (none-other c after later) (λ h. clash (h .1) refl)
+case-exactly (x ∷ before) c p b after first later =
+    go (judge-case (x .code) (x .cases) (verdict (before ++ rule c (at p b ∷ []) ∷ after))) (lacking c (x .code) (map codeOf before) first)
+    (case-exactly before c p b after (lacking c (x .code) (map codeOf before) first .rest) later)
+  where
+    go : {a v : Answer} → Judged (x .code) (x .cases) v a → Lacking c (x .code) (map codeOf before) → ExactlyAt c p ((noneBroken before ≡ true) × (b ≡ true)) v
+        → ExactlyAt c p ((noneBroken (x ∷ before) ≡ true) × (b ≡ true)) a
+    go (passes n e) l h = rw (e, n) h
+    go (breaks y f) l h = never-given (λ z. l .first (sym (ap (λ (v : Answer). v .code) (f .says)) ∙ z)) (λ g. clash (g .0) (rw y))
+
+-- ---- a row made two by a condition
+-- where this code was given and the condition holds, the new code at this place; every other answer stays
+abbrev pub moved : ℕ → ℕ → ℕ → Bool → Answer → Answer
+moved old new p s a = cond (eqb (a .code) old && s) (answer new p) a
+
+stays : (old new p : ℕ) (s : Bool) (a : Answer) → (a .code ≡ old → ⊥) → moved old new p s a ≡ a
+stays old new p s a n = rw (ne-eqb (a .code) old n)
+
+behind-cases : (old new p : ℕ) (s : Bool) (c : ℕ) (ks : List Case) (v : Answer) → (c ≡ old → ⊥) → firstCase c ks (moved old new p s v) ≡ moved old new p s (firstCase c ks v)
+behind-cases old new p s c [] v n = refl
+behind-cases old new p s c (k ∷ ks) v n = go (k .when) (behind-cases old new p s c ks v n)
+  where
+    go : (t : Bool) → firstCase c ks (moved old new p s v) ≡ moved old new p s (firstCase c ks v)
+        → cond t (answer c (k .place)) (firstCase c ks (moved old new p s v)) ≡ moved old new p s (cond t (answer c (k .place)) (firstCase c ks v))
+    go true h = sym (stays old new p s (answer c (k .place)) n)
+    go false h = h
+
+pub made-two : (before : List Rule) (old new p : ℕ) (b s : Bool) (after : List Rule) → lacks old (map codeOf before) ≡ true → lacks old (0 ∷ map codeOf after) ≡ true
+    → verdict (before ++ rule new (at p (b && s) ∷ []) ∷ rule old (at p (b && not s) ∷ []) ∷ after) ≡ moved old new p s (verdict (before ++ rule old (at p b ∷ []) ∷ after))
+made-two [] old new p true true after first later = rw (eq-eqb old old refl)
+made-two [] old new p true false after first later = rw (eq-eqb old old refl)
+made-two [] old new p false s after first later = sym (stays old new p s (verdict after) (none-other old after later))
+made-two (x ∷ before) old new p b s after first later =
+    let l = lacking old (x .code) (map codeOf before) first in
+    ap (firstCase (x .code) (x .cases)) (made-two before old new p b s after (l .rest) later) ∙ behind-cases old new p s (x .code) (x .cases) _ (l .first)
+
+-- so the new code is given exactly where the old one was and the condition holds, and the old one where it does not
+module _ (old new p : ℕ) (s : Bool) (condition : Type 0) (a : Answer) (e : ExactlyAt old p condition a) (n : a .code ≡ new → ⊥) (d : new ≡ old → ⊥) where
+  pub new-exactly : ExactlyAt new p (condition × (s ≡ true)) (moved old new p s a)
+  new-exactly = go (eqb (a .code) old) refl s
+    where
+      go : (t : Bool) → eqb (a .code) old ≡ t → (s : Bool) → ExactlyAt new p (condition × (s ≡ true)) (cond (t && s) (answer new p) a)
+      go true h true = record { when = (λ z. (e .when .0 (eqb-true _ old h), refl), λ c. refl); there = λ z. refl }
+      go true h false = never-given n (λ c. clash (c .1) refl)
+      go false h s = never-given n (λ c. eqb-false _ old h (e .when .1 (c .0)))
+
+  pub old-exactly : ExactlyAt old p (condition × (s ≡ false)) (moved old new p s a)
+  old-exactly = go (eqb (a .code) old) refl s
+    where
+      go : (t : Bool) → eqb (a .code) old ≡ t → (s : Bool) → ExactlyAt old p (condition × (s ≡ false)) (cond (t && s) (answer new p) a)
+      go true h true = never-given d (λ c. clash refl (c .1))
+      go true h false = record { when = (λ z. (e .when .0 z, refl), λ c. e .when .1 (c .0)); there = e .there }
+      go false h s = never-given (eqb-false _ old h) (λ c. eqb-false _ old h (e .when .1 (c .0)))
+
+  pub answer-moves : (moved old new p s a ≡ a → ⊥) ↔ ((a .code ≡ old) × (s ≡ true))
+  answer-moves = go (eqb (a .code) old) refl s
+    where
+      go : (t : Bool) → eqb (a .code) old ≡ t → (s : Bool) → (cond (t && s) (answer new p) a ≡ a → ⊥) ↔ ((a .code ≡ old) × (s ≡ true))
+      go true h true = (λ m. (eqb-true _ old h, refl), λ c q. n (sym (ap (λ (x : Answer). x .code) q)))
+      go true h false = (λ m. absurd (m refl), λ c. absurd (clash (c .1) refl))
+      go false h s = (λ m. absurd (m refl), λ c. absurd (eqb-false _ old h (c .0)))
