@@ -1,10 +1,15 @@
 /*
- * Fuganorezi for C: checks of postal consignments, and an open batch of them, in the archive
- * libfuganorezi.a (x86-64).
+ * Fuganorezi for C: checks of postal consignments, writers for what has one right writing, and an
+ * open batch of consignments, in the archive libfuganorezi.a (x86-64).
  *
  * Bytes are lent for the call: nothing is kept or freed, nothing is changed but what is said
  * to be, and no byte at or past its length is touched. Bytes may be NULL only where their
  * length is 0. No call fails, waits or uses memory of its own beyond the stack.
+ *
+ * Threads: every call is reentrant. There is no state behind the calls, and no lock: any threads
+ * may call at the same time, as long as nobody changes what is lent to a call until it returns.
+ *
+ * Words for the codes, and the names and forms of the fields, are in fuganorezi_words.h.
  */
 #ifndef FUGANOREZI_H
 #define FUGANOREZI_H
@@ -16,6 +21,105 @@
 extern "C" {
 #endif
 
+/* The version of this header, which CHANGELOG.md follows. The first number changes where a program has to be changed. */
+#define FUGANOREZI_VERSION_MAJOR 1
+#define FUGANOREZI_VERSION_MINOR 3
+#define FUGANOREZI_VERSION_PATCH 0
+#define FUGANOREZI_VERSION "1.3.0"
+
+/* Lengths in bytes, unless another unit is said. */
+enum fuganorezi_lengths {
+    FUGANOREZI_IDENTIFIER_LENGTH = 13,
+    FUGANOREZI_RECORD_LENGTH = 399,
+    FUGANOREZI_LINE_LENGTH = 401, /* a record and its line end, 0Dh 0Ah */
+    FUGANOREZI_FIELDS = 26,       /* fields of a record, counted from 1 */
+    FUGANOREZI_MOST_RECORDS = 999,
+
+    /* the buffers of a batch: the file's length is a multiple of FUGANOREZI_LINE_LENGTH */
+    FUGANOREZI_FILE_LEAST = 401,
+    FUGANOREZI_FILE_MOST = 400599,
+    FUGANOREZI_JOURNAL_LEAST = 403,
+    FUGANOREZI_JOURNAL_MOST = 1048576,
+    FUGANOREZI_RECORD_ENTRY = 403,     /* what an addition or an amendment takes in the journal */
+    FUGANOREZI_IDENTIFIER_ENTRY = 17   /* and what a cancellation does */
+};
+
+/* The highest amount that fields 16 and 17 can hold, in haléře, and the highest weight of field 15, in grams. */
+#define FUGANOREZI_AMOUNT_MOST UINT64_C(99999999999)
+#define FUGANOREZI_WEIGHT_MOST UINT64_C(99999)
+
+/* A field by its number: where it starts in the record, counted from 0, and its width. */
+enum fuganorezi_layout {
+    FUGANOREZI_START_1 = 0,        FUGANOREZI_WIDTH_1 = 13,  /* consignment identifier */
+    FUGANOREZI_START_2 = 13,       FUGANOREZI_WIDTH_2 = 8,   /* date */
+    FUGANOREZI_START_3 = 21,       FUGANOREZI_WIDTH_3 = 8,   /* time */
+    FUGANOREZI_START_4 = 29,       FUGANOREZI_WIDTH_4 = 30,  /* addressee's name */
+    FUGANOREZI_START_5 = 59,       FUGANOREZI_WIDTH_5 = 5,   /* postcode */
+    FUGANOREZI_START_6 = 64,       FUGANOREZI_WIDTH_6 = 2,   /* country */
+    FUGANOREZI_START_7 = 66,       FUGANOREZI_WIDTH_7 = 40,  /* municipality */
+    FUGANOREZI_START_8 = 106,      FUGANOREZI_WIDTH_8 = 40,  /* district */
+    FUGANOREZI_START_9 = 146,      FUGANOREZI_WIDTH_9 = 40,  /* street */
+    FUGANOREZI_START_10 = 186,     FUGANOREZI_WIDTH_10 = 6,  /* house number (č.p.) */
+    FUGANOREZI_START_11 = 192,     FUGANOREZI_WIDTH_11 = 6,  /* house number (č.o.) */
+    FUGANOREZI_START_12 = 198,     FUGANOREZI_WIDTH_12 = 20, /* telephone */
+    FUGANOREZI_START_13 = 218,     FUGANOREZI_WIDTH_13 = 50, /* e-mail */
+    FUGANOREZI_START_14 = 268,     FUGANOREZI_WIDTH_14 = 12, /* delivery charges */
+    FUGANOREZI_START_15 = 280,     FUGANOREZI_WIDTH_15 = 6,  /* weight */
+    FUGANOREZI_START_16 = 286,     FUGANOREZI_WIDTH_16 = 12, /* cash on delivery */
+    FUGANOREZI_START_17 = 298,     FUGANOREZI_WIDTH_17 = 12, /* price specified */
+    FUGANOREZI_START_18 = 310,     FUGANOREZI_WIDTH_18 = 30, /* services */
+    FUGANOREZI_START_19 = 340,     FUGANOREZI_WIDTH_19 = 2,  /* status */
+    FUGANOREZI_START_20 = 342,     FUGANOREZI_WIDTH_20 = 10, /* franking machine */
+    FUGANOREZI_START_21 = 352,     FUGANOREZI_WIDTH_21 = 10, /* variable symbol */
+    FUGANOREZI_START_22 = 362,     FUGANOREZI_WIDTH_22 = 13, /* main consignment */
+    FUGANOREZI_START_23 = 375,     FUGANOREZI_WIDTH_23 = 2,  /* serial number of the piece */
+    FUGANOREZI_START_24 = 377,     FUGANOREZI_WIDTH_24 = 2,  /* number of pieces */
+    FUGANOREZI_START_25 = 379,     FUGANOREZI_WIDTH_25 = 10, /* consignor's number */
+    FUGANOREZI_START_26 = 389,     FUGANOREZI_WIDTH_26 = 10  /* sender's symbol */
+};
+
+/* Each code that a call gives. When is said at the calls. */
+enum fuganorezi_code {
+    FUGANOREZI_GOOD = 0,
+    FUGANOREZI_WRONG_IDENTIFIER = 1,
+    FUGANOREZI_IDENTIFIER_TWICE = 2,
+    FUGANOREZI_SYMBOL_MISSING = 11,
+    FUGANOREZI_ADDRESS_INCOMPLETE = 27,
+    FUGANOREZI_WEIGHT_MISSING_41 = 31,
+    FUGANOREZI_WEIGHT_MISSING = 34,
+    FUGANOREZI_CASH_DISAGREES = 36,
+    FUGANOREZI_PIECES_DISAGREE = 72,
+    FUGANOREZI_MALFORMED = 210,
+    FUGANOREZI_FILE_LENGTH = 211,
+    FUGANOREZI_LINE_END = 212,
+    FUGANOREZI_TOO_MANY_RECORDS = 213,
+    FUGANOREZI_SERVICES_EXCLUDE = 220,
+    FUGANOREZI_SYMBOL_FILLED = 221,
+    FUGANOREZI_PRICE_DISAGREES = 222,
+    FUGANOREZI_CONTACT_MISSING = 223,
+    FUGANOREZI_FILE_FULL = 230,
+    FUGANOREZI_JOURNAL_FULL = 231,
+    FUGANOREZI_NOT_THERE = 232,
+    FUGANOREZI_IS_CANCELLED = 233,
+    FUGANOREZI_NOTHING_TO_UNDO = 234,
+    FUGANOREZI_BUFFER_LENGTH = 235,
+    FUGANOREZI_WRONG_LENGTH = 236,
+    FUGANOREZI_BATCH_DISAGREES = 237,
+    FUGANOREZI_SET_NOT_WHOLE = 240
+};
+
+/* The seven numbers of the file check and of the closing check, as places of `out`. */
+enum fuganorezi_out {
+    FUGANOREZI_OUT_CODE,
+    FUGANOREZI_OUT_RECORD,
+    FUGANOREZI_OUT_PLACE,
+    FUGANOREZI_OUT_LIVE,
+    FUGANOREZI_OUT_CANCELLED,
+    FUGANOREZI_OUT_CASH,
+    FUGANOREZI_OUT_PRICE,
+    FUGANOREZI_OUT_NUMBERS /* how many they are */
+};
+
 /*
  * Whether these bytes are a right identifier of a consignment: 13 bytes, with the prefix, the
  * numbers, the check digit and the postfix as they should be.
@@ -25,6 +129,58 @@ extern "C" {
  *    answer for any length other than 13.
  */
 uint32_t fuganorezi_identifier_check(const uint8_t *bytes, size_t length);
+
+/*
+ * What the calls below answer about one record or one field, by value: the code, and its place,
+ * the number of the field that it speaks of; 0 if it speaks of none. Code 0 has place 0.
+ */
+typedef struct fuganorezi_answer {
+    uint32_t code;
+    uint32_t place;
+} fuganorezi_answer;
+
+/*
+ * Whether these bytes are a good record, 399 of them without line end.
+ *
+ * 236 (0)  there are not 399 bytes.
+ *   1 to 72  as in the list of the file check, from 1 down to 72 and with the same places.
+ *
+ * As it may stand in a file, live or cancelled; or, as a batch takes it, to be posted: there a
+ * status that is not blank is malformed, 210 (19).
+ */
+fuganorezi_answer fuganorezi_record_check(const uint8_t *bytes, size_t length);
+fuganorezi_answer fuganorezi_record_check_posting(const uint8_t *bytes, size_t length);
+
+/*
+ * What an identifier says.
+ */
+typedef struct fuganorezi_parts {
+    uint8_t first, second; /* the prefix: a capital letter, and another or a space */
+    uint8_t last;          /* the last byte: F E P (consignor of 2 digits), U T (3), C B (4), M L (5), or Z for the postfix CZ */
+    uint64_t consignor;    /* at least 1; 0 with Z */
+    uint64_t posting;      /* the posting number, at least 1 and with as many digits as make 9 with the consignor's; with Z 0 to 99999999 */
+} fuganorezi_parts;
+
+/*
+ * The writers: each sets the bytes lent to it to the one right writing, and answers 0. What it
+ * refuses leaves them as they were.
+ *
+ * An identifier with these parts and the check digit that belongs to them, into 13 bytes:
+ *
+ * 236 (0)  there are not 13 bytes.
+ *   1 (1)  no right identifier has these parts.
+ */
+fuganorezi_answer fuganorezi_identifier_write(uint8_t *bytes, size_t length, fuganorezi_parts parts);
+
+/*
+ * An amount in haléře, as fields 16 and 17 hold it, into 12 bytes; and a weight in grams, as
+ * field 15 does, into 6. No amount and no weight are blanks, which are not written here.
+ *
+ * 236 (0)  there are not 12 bytes, or not 6.
+ * 210 (0)  the field cannot hold as much.
+ */
+fuganorezi_answer fuganorezi_amount_write(uint8_t *bytes, size_t length, uint64_t hellers);
+fuganorezi_answer fuganorezi_weight_write(uint8_t *bytes, size_t length, uint64_t grams);
 
 /*
  * Whether these bytes are a good K file: up to 999 records of 401 bytes, each 399 bytes and a

@@ -9,7 +9,7 @@
 #include "fuganorezi.h"
 #include "good_file.h"
 
-enum { MOST_RECORDS = 999, NUMBERS = 7 };
+enum { MOST_RECORDS = FUGANOREZI_MOST_RECORDS, NUMBERS = FUGANOREZI_OUT_NUMBERS };
 
 typedef uint32_t file_check(const uint8_t *bytes, size_t length, uint64_t out[NUMBERS]);
 

@@ -10,13 +10,13 @@
 #include <ucontext.h>
 
 enum {
-    RECORD = 399,
-    IDENTIFIER = 13,
-    ADDITION = 403, /* the lengths of whole entries */
-    CANCELLATION = 17,
-    MOST_RECORDS = 999,
-    LONGEST_FILE = MOST_RECORDS * GOOD_STEP,
-    LONGEST_JOURNAL = 1048576,
+    RECORD = FUGANOREZI_RECORD_LENGTH,
+    IDENTIFIER = FUGANOREZI_IDENTIFIER_LENGTH,
+    ADDITION = FUGANOREZI_RECORD_ENTRY,
+    CANCELLATION = FUGANOREZI_IDENTIFIER_ENTRY,
+    MOST_RECORDS = FUGANOREZI_MOST_RECORDS,
+    LONGEST_FILE = FUGANOREZI_FILE_MOST,
+    LONGEST_JOURNAL = FUGANOREZI_JOURNAL_MOST,
     LONGEST_BYTES = 65536, /* of a record or identifier: far more than either has */
     STACK = 400 * 1024,
     COUNTS = 6,
@@ -347,21 +347,6 @@ static void ask_refusals(void)
 
 /* Judged histories */
 
-static uint32_t adler(const uint8_t *bytes, size_t length)
-{
-    uint32_t a = 1, b = 0;
-    for (size_t i = 0; i < length; i++) {
-        a = (a + bytes[i]) % 65521;
-        b = (b + a) % 65521;
-    }
-    return b << 16 | a;
-}
-
-static uint64_t eight_bytes(const uint8_t bytes[8])
-{
-    return four_bytes(bytes) | (uint64_t)four_bytes(bytes + 4) << 32;
-}
-
 static void set_byte(uint8_t *buffer, size_t length, const uint8_t bytes[5])
 {
     size_t at = four_bytes(bytes);
@@ -386,8 +371,8 @@ static void expect_line(const char *what, unsigned long number, const struct bat
     expect_answer(what, number, b, expected[0], expected[1]);
     for (unsigned i = 0; i < COUNTS; i++)
         expect(what, number, count_in(b->counts, i), expected[2 + i]);
-    expect(what, number, adler(b->file, b->file_length), expected[LINE - 2]);
-    expect(what, number, adler(b->journal, b->journal_length), expected[LINE - 1]);
+    expect(what, number, adler_32(b->file, b->file_length), expected[LINE - 2]);
+    expect(what, number, adler_32(b->journal, b->journal_length), expected[LINE - 1]);
 }
 
 static void ask_history(const char *what, unsigned long *number, const struct item *item, FILE *lines,

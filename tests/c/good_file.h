@@ -5,13 +5,15 @@
 #ifndef GOOD_FILE_H
 #define GOOD_FILE_H
 
+#include "fuganorezi_words.h"
+
 #include <inttypes.h>
 #include <stdbool.h>
 #include <stdint.h>
 #include <stdio.h>
 #include <string.h>
 
-enum { GOOD_STEP = 401, GOOD_STATUS = 340, GOOD_KINDS = 6 };
+enum { GOOD_STEP = FUGANOREZI_LINE_LENGTH, GOOD_STATUS = FUGANOREZI_START_19, GOOD_KINDS = 6 };
 
 /* What a file of good records has to be answered with. */
 struct good_totals {
@@ -20,12 +22,7 @@ struct good_totals {
 
 static inline void put_field(uint8_t *record, unsigned field, const char *text)
 {
-    static const uint8_t widths[26] = {13, 8, 8, 30, 5, 2,  40, 40, 40, 6,  6, 20, 50,
-                                       12, 6, 12, 12, 30, 2, 10, 10, 13, 2, 2, 10, 10};
-    size_t start = 0;
-    for (unsigned i = 1; i < field; i++)
-        start += widths[i - 1];
-    memcpy(record + start, text, strlen(text));
+    memcpy(record + fuganorezi_field_at(field)->start, text, strlen(text));
 }
 
 static inline void put_amount(uint8_t *record, unsigned field, uint64_t hellers)

@@ -48,6 +48,22 @@ static inline size_t four_bytes(const uint8_t bytes[4])
     return bytes[0] | (size_t)bytes[1] << 8 | (size_t)bytes[2] << 16 | (size_t)bytes[3] << 24;
 }
 
+static inline uint64_t eight_bytes(const uint8_t bytes[8])
+{
+    return four_bytes(bytes) | (uint64_t)four_bytes(bytes + 4) << 32;
+}
+
+/* The sum of bytes that a judged line gives for a lent part or buffer. */
+static inline uint32_t adler_32(const uint8_t *bytes, size_t length)
+{
+    uint32_t a = 1, b = 0;
+    for (size_t i = 0; i < length; i++) {
+        a = (a + bytes[i]) % 65521;
+        b = (b + a) % 65521;
+    }
+    return b << 16 | a;
+}
+
 /* The next item, in memory of exactly its length, which the caller frees; 0 at the file's end. */
 static inline int next_item(FILE *from, const char *path, struct item *item)
 {

@@ -1,18 +1,43 @@
 -- One outcome only: two that satisfy the promise of a function for C are the same, the caller's array and both buffers included.
 -- Assumes nothing.
 use Prim.Native.Nat.{ℕ}
-use mathlib.Core.Path.{_≡_}
+use mathlib.Core.Path.{_≡_, _∙_, sym, ap}
+use mathlib.Core.Bool.{Bool}
 use mathlib.Core.List.{List}
+use Rattle.text.specs.declared.Answer.{Answer}
 use Rattle.text.proofs.OneOutcome.{gives-once}
+use Rattle.ident.proofs.OneOutcome as Ident
+use Rattle.fields.specs.Calls as Fields
+use Rattle.fields.proofs.OneOutcome as Numbers
 use Rattle.posting.specs.declared.FileAnswer.{FileAnswer}
 use Rattle.batch.specs.Batch.{Batch, Call}
 use Rattle.fuganorezi.specs.declared.BatchOutcome.{BatchOutcome}
-use Rattle.fuganorezi.specs.Calls.{IdentifierChecked, Answered, BatchCalled}
+use Rattle.fuganorezi.specs.declared.CodeAndPlace.{CodeAndPlace}
+use Rattle.fuganorezi.specs.declared.IdentifierParts.{IdentifierParts}
+use Rattle.fuganorezi.specs.Calls.{IdentifierChecked, answerOf, RecordChecked, partsIn, IdentifierWritten, Answered, BatchCalled}
 
 pub identifier-checked-once : (id : List ℕ) (r s : ℕ) → IdentifierChecked id r → IdentifierChecked id s → r ≡ s
 identifier-checked-once id r s = gives-once _ r s
 
--- of the file check and of the closing check
+-- ---- an answer by value is settled by the answer
+by-value-once : (r s : CodeAndPlace) → answerOf r ≡ answerOf s → r ≡ s
+by-value-once r s = ap (λ (a : Answer). record { code = a .code; place = a .place })
+
+pub record-checked-once : (toBePosted : Bool) (rec : List ℕ) (r s : CodeAndPlace) → RecordChecked toBePosted rec r → RecordChecked toBePosted rec s → r ≡ s
+record-checked-once toBePosted rec r s u v = by-value-once r s (u ∙ sym v)
+
+pub identifier-written-once : (before : List ℕ) (p : IdentifierParts) (r s : CodeAndPlace) (after after′ : List ℕ)
+    → IdentifierWritten before p r after → IdentifierWritten before p s after′ → (r ≡ s) × (after ≡ after′)
+identifier-written-once before p r s after after′ u v =
+    let once = Ident.written-once before (partsIn p) (answerOf r) (answerOf s) after after′ u v in (by-value-once r s (once .0), once .1)
+
+-- of the amount's writer and of the weight's
+pub number-written-once : (width : ℕ) (has : Bool) (text before : List ℕ) (r s : CodeAndPlace) (after after′ : List ℕ)
+    → Fields.Written width has text before (answerOf r) after → Fields.Written width has text before (answerOf s) after′ → (r ≡ s) × (after ≡ after′)
+number-written-once width has text before r s after after′ u v =
+    let once = Numbers.written-once width has text before (answerOf r) (answerOf s) after after′ u v in (by-value-once r s (once .0), once .1)
+
+-- ---- of the file check and of the closing check
 pub answered-once : (a : FileAnswer) (r s : ℕ) (out out′ : List ℕ) → Answered a r out → Answered a s out′ → (r ≡ s) × (out ≡ out′)
 answered-once a r s out out′ u v = (gives-once _ r s (u .code) (v .code), gives-once _ out out′ (u .numbers) (v .numbers))
 

@@ -2,12 +2,17 @@
 -- Assumes nothing.
 use Prim.Native.Nat.{ℕ}
 use mathlib.Core.List.{List}
-use mathlib.Core.Bool.{cond}
+use mathlib.Core.Bool.{Bool, cond}
 use mathlib.Core.Path.{_≡_}
 use Rattle.text.specs.declared.Answer.{Answer}
-use Rattle.text.specs.Answers.{accepted}
+use Rattle.text.specs.Answers.{answer, accepted}
+use Rattle.ident.specs.declared.Parts.{Parts}
 use Rattle.ident.specs.Identifier.{rightId}
-use Rattle.ident.specs.Calls.{notRight}
+use Rattle.ident.specs.Calls as Ident
+use Rattle.fields.specs.declared.amounts.MoneyReading.the-variants as Money
+use Rattle.fields.specs.declared.amounts.WeightReading.the-variants as Weight
+use Rattle.fields.specs.Calls as Fields
+use Rattle.record.specs.Rules.{recordAnswer}
 use Rattle.posting.specs.declared.FileAnswer.{FileAnswer}
 use Rattle.posting.specs.File.{totals, fileAnswer}
 use Rattle.posting.specs.Report.{numbersOf}
@@ -16,10 +21,35 @@ use Rattle.batch.specs.declared.Counts.{Counts}
 use Rattle.batch.specs.Batch.{Batch, Call, countsOf, answerTo, after}
 use Rattle.fuganorezi.specs.declared.BatchCounts.{BatchCounts}
 use Rattle.fuganorezi.specs.declared.BatchOutcome.{BatchOutcome}
+use Rattle.fuganorezi.specs.declared.CodeAndPlace.{CodeAndPlace}
+use Rattle.fuganorezi.specs.declared.IdentifierParts.{IdentifierParts}
 
 -- the code of the identifier check
 abbrev pub IdentifierChecked : List ℕ → ℕ → Type 0
-IdentifierChecked s r = r ≡ cond (rightId s) (accepted .code) (notRight .code)
+IdentifierChecked s r = r ≡ cond (rightId s) (accepted .code) (Ident.notRight .code)
+
+-- ---- one record, and the writers: an answer by value
+abbrev pub answerOf : CodeAndPlace → Answer
+answerOf r = answer (r .code) (r .place)
+
+-- the answer to a record in a file, or to one to be posted
+abbrev pub RecordChecked : Bool → List ℕ → CodeAndPlace → Type 0
+RecordChecked toBePosted rec r = answerOf r ≡ recordAnswer toBePosted rec
+
+abbrev pub partsIn : IdentifierParts → Parts
+partsIn p = record { first = p .first; second = p .second; last = p .last; consignor = p .consignor; posting = p .posting }
+
+-- what the writers below promise of the answer and of the lent bytes `before` and `after`
+abbrev pub IdentifierWritten : List ℕ → IdentifierParts → CodeAndPlace → List ℕ → Type 0
+IdentifierWritten before p r after = Ident.Written before (partsIn p) (answerOf r) after
+
+abbrev pub AmountWritten : List ℕ → ℕ → CodeAndPlace → List ℕ → Type 0
+AmountWritten before hellers r after = Fields.MoneyWritten before (Money.Value (record { 0 = hellers })) (answerOf r) after
+
+abbrev pub WeightWritten : List ℕ → ℕ → CodeAndPlace → List ℕ → Type 0
+WeightWritten before grams r after = Fields.WeightWritten before (Weight.Value (record { 0 = grams })) (answerOf r) after
+
+-- ---- a whole file
 
 -- of an answer to a file: its code, and in `out` all its seven numbers, whatever stood there
 pub record Answered (a : FileAnswer) (r : ℕ) (out : List ℕ) : Type 0 where

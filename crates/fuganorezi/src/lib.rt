@@ -1,12 +1,18 @@
-// The interface for C, declared in include/fuganorezi.h: byte slices and counts in, numbers out.
+// The interface for C, declared in include/fuganorezi.h: byte slices and numbers in, numbers out.
 ghost use mathlib.Core.Path.{_≡_};
+ghost use mathlib.Core.Bool.{true, false};
 ghost use Rattle.batch.specs.Batch.{noCounts, batchOf, Open, Add, Amend, Cancel, Undo};
-ghost use Rattle.fuganorezi.specs.Calls.{IdentifierChecked, Answered, FileChecked, ClosingChecked, countsIn, outcomeOf, BatchCalled};
+ghost use Rattle.fuganorezi.specs.Calls.{IdentifierChecked, answerOf, RecordChecked, partsIn, IdentifierWritten, AmountWritten, WeightWritten, Answered, FileChecked, ClosingChecked, countsIn, outcomeOf, BatchCalled};
 use batch::Counts;
 use batch::Outcome;
+use fields::Grams;
 use fields::Hellers;
+use fields::MoneyReading;
+use fields::WeightReading;
+use ident::Parts;
 use posting::FileAnswer;
 use posting::Totals;
+use text::Answer;
 
 #[no_mangle]
 pub extern "C" fn fuganorezi_identifier_check(bytes: &[u8]) -> u32
@@ -15,6 +21,83 @@ pub extern "C" fn fuganorezi_identifier_check(bytes: &[u8]) -> u32
     ident::check(bytes).code
 }
 
+// ---- one record, and the writers: code and place by value
+
+#[repr(C)]
+pub struct CodeAndPlace {
+    pub code: u32,
+    pub place: u32,
+}
+
+#[repr(C)]
+pub struct IdentifierParts {
+    pub first: u8,
+    pub second: u8,
+    pub last: u8,
+    pub consignor: u64,
+    pub posting: u64,
+}
+
+fn by_value(a: Answer) -> CodeAndPlace
+    ensures { λ r. ⌜ answerOf r ≡ a ⌝ }
+{
+    CodeAndPlace {
+        code: a.code,
+        place: a.place,
+    }
+}
+
+#[no_mangle]
+pub extern "C" fn fuganorezi_record_check(bytes: &[u8]) -> CodeAndPlace
+    ensures { λ r. ⌜ RecordChecked false (now (bytes .entry)) r ⌝ }
+{
+    by_value(record::check(bytes))
+}
+
+#[no_mangle]
+pub extern "C" fn fuganorezi_record_check_posting(bytes: &[u8]) -> CodeAndPlace
+    ensures { λ r. ⌜ RecordChecked true (now (bytes .entry)) r ⌝ }
+{
+    by_value(record::check_posting(bytes))
+}
+
+fn parts_in(p: IdentifierParts) -> Parts
+    ensures { λ r. ⌜ r ≡ partsIn p ⌝ }
+{
+    Parts {
+        first: p.first,
+        second: p.second,
+        last: p.last,
+        consignor: p.consignor,
+        posting: p.posting,
+    }
+}
+
+#[no_mangle]
+pub extern "C" fn fuganorezi_identifier_write(
+    bytes: &mut [u8],
+    parts: IdentifierParts,
+) -> CodeAndPlace
+    ensures { λ r. ⌜ IdentifierWritten (now (bytes .entry)) parts r (now (bytes .exit)) ⌝ }
+{
+    by_value(ident::write(bytes, parts_in(parts)))
+}
+
+#[no_mangle]
+pub extern "C" fn fuganorezi_amount_write(bytes: &mut [u8], hellers: u64) -> CodeAndPlace
+    ensures { λ r. ⌜ AmountWritten (now (bytes .entry)) hellers r (now (bytes .exit)) ⌝ }
+{
+    by_value(fields::write_money(bytes, MoneyReading::Value(Hellers(hellers))))
+}
+
+#[no_mangle]
+pub extern "C" fn fuganorezi_weight_write(bytes: &mut [u8], grams: u64) -> CodeAndPlace
+    ensures { λ r. ⌜ WeightWritten (now (bytes .entry)) grams r (now (bytes .exit)) ⌝ }
+{
+    by_value(fields::write_weight(bytes, WeightReading::Value(Grams(grams))))
+}
+
+// ---- a whole file
 // The code is the result and stands in `out` too, so that `out` alone has the whole answer.
 fn told(answer: FileAnswer, out: &mut [u64; 7]) -> u32
     ensures { λ r. ⌜ Answered answer r (now (out .exit)) ⌝ }
