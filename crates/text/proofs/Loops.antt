@@ -12,7 +12,7 @@ use mir.Syntax.{w64}
 use mir.Val.{Fits}
 use lib.ListN.{length, getD, take, drop, set, replicate, length-take, length-set}
 use lib.Seq.{getD-take, drop-set-lt, getD-set-same, drop-length}
-use Rattle.text.specs.Bytes.{every, isBlank, run}
+use Rattle.text.specs.Bytes.{every, run}
 use Rattle.text.specs.Lists.{sameBytes}
 use Rattle.text.specs.Numbers.{numberAfter, digits, decimalPlacesUpTo}
 use Rattle.text.proofs.Lists.{step, ended}
@@ -74,15 +74,15 @@ pub digits-done : (s : List ℕ) (i n : ℕ) → i ≤ 0 → digits i n ++ drop 
 unfolding digits
 digits-done s i n h = let z : i ≡ 0 = omega arith in rw z
 
--- ---- blank
-module _ (s : List ℕ) (i : ℕ) (r : Bool) (known : isBlank (drop i s) ≡ r) (h : i < length s) where
-  pub blank-fails : (getD s i 0 ≡ 32 → ⊥) → false ≡ r
+-- ---- each byte is c
+module _ (c : ℕ) (s : List ℕ) (i : ℕ) (r : Bool) (known : every (λ b. eqb b c) (drop i s) ≡ r) (h : i < length s) where
+  pub all-fails : (getD s i 0 ≡ c → ⊥) → false ≡ r
   unfolding every
-  blank-fails n = rw (step s i h, ne-eqb (getD s i 0) 32 n) at known
+  all-fails n = rw (step s i h, ne-eqb (getD s i 0) c n) at known
 
-  pub blank-on : getD s i 0 ≡ 32 → isBlank (drop (i + 1) s) ≡ r
+  pub all-on : getD s i 0 ≡ c → every (λ b. eqb b c) (drop (i + 1) s) ≡ r
   unfolding every
-  blank-on e = rw (step s i h, eq-eqb (getD s i 0) 32 e) at known
+  all-on e = rw (step s i h, eq-eqb (getD s i 0) c e) at known
 
 -- ---- the bytes at the front that pass a test
 module _ (test : ℕ → Bool) (s : List ℕ) (i r : ℕ) (known : i + run test (drop i s) ≡ r) where

@@ -1,8 +1,8 @@
--- Several bytes at once: a test of the first k and of the rest, and bytes as one number.
+-- Several bytes at once: a test, or two lists compared, by the first k bytes and the rest; and bytes as one number.
 -- Assumes nothing.
 use Prim.Native.Nat.{ℕ, zero, suc, _+_, _-_, _*_, _^_, _≤_, _<_}
 use mathlib.Core.Path.{_≡_, refl, sym, ap, _∙_}
-use mathlib.Core.Bool.{Bool, true, false, not, _&&_, and-eq-true-iff}
+use mathlib.Core.Bool.{Bool, true, false, not, _&&_, and-assoc, and-eq-true-iff}
 use mathlib.Core.List.{List, [], _∷_}
 use native.Mathlib.Numerals.{add-one}
 use native.Mathlib.Omega.{arith}
@@ -12,7 +12,8 @@ use mir.Syntax.{w8}
 use mir.Val.{Fits}
 use lib.ListN.{length, getD, take, drop, replicate, length-drop}
 use lib.Seq.{drop-drop, take-all, getD-drop, drop-length}
-use Rattle.text.specs.Bytes.{every, isBlank}
+use Rattle.text.specs.Bytes.{every, isBlank, isZero}
+use Rattle.text.specs.Lists.{sameBytes}
 use Rattle.text.specs.Words.{lowFirst, wordOf}
 use Rattle.text.proofs.Booleans.{clash}
 use Rattle.text.proofs.Lists.{step}
@@ -37,6 +38,25 @@ module _ (test : ℕ → Bool) (s : List ℕ) (i k : ℕ) (r b : Bool) (known : 
 
   pub chunk-on : not b ≡ false → every test (drop (i + k) s) ≡ r
   chunk-on n = rw (not-false b n) at cut
+
+-- ---- two lists compared, k bytes at once
+same-split : (k : ℕ) (a b : List ℕ) → sameBytes a b ≡ (sameBytes (take k a) (take k b) && sameBytes (drop k a) (drop k b))
+unfolding sameBytes
+same-split zero a b = refl
+same-split (suc k) [] [] = refl
+same-split (suc k) [] (y ∷ b) = refl
+same-split (suc k) (x ∷ a) [] = refl
+same-split (suc k) (x ∷ a) (y ∷ b) = rw (same-split k a b) (sym (and-assoc (eqb x y) (sameBytes (take k a) (take k b)) (sameBytes (drop k a) (drop k b))))
+
+module _ (a b : List ℕ) (i k : ℕ) (r t : Bool) (known : sameBytes (drop i a) (drop i b) ≡ r) (et : t ≡ sameBytes (take k (drop i a)) (take k (drop i b))) where
+  same-cut : (t && sameBytes (drop (i + k) a) (drop (i + k) b)) ≡ r
+  same-cut = rw (et, ← drop-drop k i a, ← drop-drop k i b) (sym (same-split k (drop i a) (drop i b)) ∙ known)
+
+  pub same-chunk-fails : not t ≡ true → false ≡ r
+  same-chunk-fails n = rw (not-true t n) at same-cut
+
+  pub same-chunk-on : not t ≡ false → sameBytes (drop (i + k) a) (drop (i + k) b) ≡ r
+  same-chunk-on n = rw (not-false t n) at same-cut
 
 -- a test passed by all passes behind any place
 pub every-behind : (test : ℕ → Bool) (k : ℕ) (s : List ℕ) → every test s ≡ true → every test (drop k s) ≡ true
@@ -144,7 +164,7 @@ module _ (s : List ℕ) (short : length s < 8) (n i : ℕ) (within : i ≤ lengt
       let z : i ≡ 0 = omega arith in
       known ∙ rw z (ap lowFirst (sym (take-all 8 s (omega arith))))
 
--- ---- spaces told by one number
+-- ---- bytes told by one number
 -- what is known of each lent slice of bytes
 abbrev pub AreBytes : List ℕ → Type 0
 AreBytes s = (j : ℕ) → Fits w8 (getD s j 0)
@@ -152,17 +172,42 @@ AreBytes s = (j : ℕ) → Fits w8 (getD s j 0)
 pub bytes-behind : (s : List ℕ) (i : ℕ) → AreBytes s → AreBytes (drop i s)
 bytes-behind s i each j = rw getD-drop (each (i + j))
 
--- the first k bytes are spaces exactly where their number is that of k spaces
-blank-told : (k : ℕ) (s : List ℕ) → k ≤ length s → AreBytes s → eqb (lowFirst (take k s)) (lowFirst (replicate k 32)) ≡ isBlank (take k s)
+-- the first k bytes are all c exactly where their number is that of k times c
+all-told : (c : ℕ) → c < 256 → (k : ℕ) (s : List ℕ) → k ≤ length s → AreBytes s → eqb (lowFirst (take k s)) (lowFirst (replicate k c)) ≡ every (λ b. eqb b c) (take k s)
 unfolding lowFirst every
-blank-told zero s h each = refl
-blank-told (suc k) [] h each = absurd (omega arith)
-blank-told (suc k) (b ∷ s) h each =
-    low-byte b 32 (lowFirst (take k s)) (lowFirst (replicate k 32)) (omega (arith, each 0)) (omega arith)
-    ∙ ap (λ (t : Bool). eqb b 32 && t) (blank-told k s (omega arith) (λ j. each (suc j)))
+all-told c small zero s h each = refl
+all-told c small (suc k) [] h each = absurd (omega arith)
+all-told c small (suc k) (b ∷ s) h each =
+    low-byte b c (lowFirst (take k s)) (lowFirst (replicate k c)) (omega (arith, each 0)) small
+    ∙ ap (λ (t : Bool). eqb b c && t) (all-told c small k s (omega arith) (λ j. each (suc j)))
 
-pub blank8-is : (s : List ℕ) (i w : ℕ) → (w ≡ wordOf (take (length s - i) (drop i s))) × (w < 2 ^ 64) → i + 8 ≤ length s → AreBytes s → eqb w 2314885530818453536 ≡ isBlank (take 8 (drop i s))
-unfolding lowFirst
-blank8-is s i w ew h each =
-    rw (ew .0, take-all (length s - i) (drop i s) (simp length-drop (omega arith)))
-    (blank-told 8 (drop i s) (simp length-drop (omega arith)) (bytes-behind s i each))
+module _ (s : List ℕ) (i w : ℕ) (ew : (w ≡ wordOf (take (length s - i) (drop i s))) × (w < 2 ^ 64)) (h : i + 8 ≤ length s) (each : AreBytes s) where
+  all8 : (c : ℕ) → c < 256 → eqb w (lowFirst (replicate 8 c)) ≡ every (λ b. eqb b c) (take 8 (drop i s))
+  all8 c small =
+      rw (ew .0, take-all (length s - i) (drop i s) (simp length-drop (omega arith)))
+      (all-told c small 8 (drop i s) (simp length-drop (omega arith)) (bytes-behind s i each))
+
+  pub blank8-is : eqb w 2314885530818453536 ≡ isBlank (take 8 (drop i s))
+  unfolding lowFirst
+  blank8-is = all8 32 (omega arith)
+
+  pub zero8-is : eqb w 0 ≡ every isZero (take 8 (drop i s))
+  unfolding lowFirst
+  zero8-is = all8 0 (omega arith)
+
+-- ---- equal bytes told by two numbers
+-- the first k bytes are the same exactly where their numbers are
+same-told : (k : ℕ) (a b : List ℕ) → k ≤ length a → k ≤ length b → AreBytes a → AreBytes b → eqb (lowFirst (take k a)) (lowFirst (take k b)) ≡ sameBytes (take k a) (take k b)
+unfolding lowFirst sameBytes
+same-told zero a b h l each-a each-b = refl
+same-told (suc k) [] b h l each-a each-b = absurd (omega arith)
+same-told (suc k) (x ∷ a) [] h l each-a each-b = absurd (omega arith)
+same-told (suc k) (x ∷ a) (y ∷ b) h l each-a each-b =
+    low-byte x y (lowFirst (take k a)) (lowFirst (take k b)) (omega (arith, each-a 0)) (omega (arith, each-b 0))
+    ∙ ap (λ (t : Bool). eqb x y && t) (same-told k a b (omega arith) (omega arith) (λ j. each-a (suc j)) (λ j. each-b (suc j)))
+
+pub same8-is : (a b : List ℕ) (i v w : ℕ) → (v ≡ wordOf (take (length a - i) (drop i a))) × (v < 2 ^ 64) → (w ≡ wordOf (take (length b - i) (drop i b))) × (w < 2 ^ 64)
+    → (i + 8 ≤ length a) × (i + 8 ≤ length b) → AreBytes a → AreBytes b → eqb v w ≡ sameBytes (take 8 (drop i a)) (take 8 (drop i b))
+same8-is a b i v w ev ew h each-a each-b =
+    rw (ev .0, ew .0, take-all (length a - i) (drop i a) (simp length-drop (omega arith)), take-all (length b - i) (drop i b) (simp length-drop (omega arith)))
+    (same-told 8 (drop i a) (drop i b) (simp length-drop (omega arith)) (simp length-drop (omega arith)) (bytes-behind a i each-a) (bytes-behind b i each-b))

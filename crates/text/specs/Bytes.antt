@@ -27,6 +27,9 @@ isSpace b = eqb b 32
 abbrev pub isBlank : List ℕ → Bool
 isBlank = every isSpace
 
+abbrev pub isZero : ℕ → Bool
+isZero b = eqb b 0
+
 -- how many bytes at the front pass a test
 unfoldable pub run : (ℕ → Bool) → List ℕ → ℕ
 run test [] = 0

@@ -4,7 +4,7 @@ ghost use Prim.Native.Nat.{_+_, _-_, _^_, _≤_, _<_};
 ghost use lib.ListN.{length, take, drop, replicate};
 ghost use Rattle.text.specs.Promises.{Gives, GivesWithin};
 ghost use Rattle.text.specs.Answers.{orElse};
-ghost use Rattle.text.specs.Bytes.{isDigit, isCapital, allDigits, isBlank, run};
+ghost use Rattle.text.specs.Bytes.{isDigit, isCapital, every, allDigits, isBlank, isZero, run};
 ghost use Rattle.text.specs.Lists.{sameBytes};
 ghost use Rattle.text.specs.Numbers.{numberOfFirst, digits, decimalPlaces};
 ghost use Rattle.text.specs.Words.{wordOf};
@@ -126,6 +126,42 @@ pub fn blank(s: &[u8]) -> bool
     true
 }
 
+// Whether eight bytes 0 stand from place i on, told by one comparison.
+fn zero8(s: &[u8], i: usize) -> bool
+    requires { ⌜ i + 8 ≤ length (now s) ⌝ }
+    ensures { λ r. ⌜ r ≡ every isZero (take 8 (drop i (now (s .entry)))) ⌝ }
+{
+    word(&s[i..]) == 0
+}
+
+// Whether all bytes are 0.
+pub fn zero(s: &[u8]) -> bool
+    ensures { λ r. ⌜ Gives (every isZero (now (s .entry))) r ⌝ }
+{
+    let mut i = 0;
+    while 8 <= s.len() - i {
+        if !zero8(s, i) {
+            return false;
+        }
+        i += 8;
+    }
+    while i < s.len() {
+        if s[i] != 0 {
+            return false;
+        }
+        i += 1;
+    }
+    true
+}
+
+// Whether the same eight bytes stand from place i on, told by one comparison.
+fn same8(a: &[u8], b: &[u8], i: usize) -> bool
+    requires { ⌜ (i + 8 ≤ length (now a)) × (i + 8 ≤ length (now b)) ⌝ }
+    ensures { λ r. ⌜ r ≡ sameBytes (take 8 (drop i (now (a .entry)))) (take 8 (drop i (now (b .entry)))) ⌝ }
+{
+    word(&a[i..]) == word(&b[i..])
+}
+
 // Whether two slices of any length are the same bytes.
 pub fn same(a: &[u8], b: &[u8]) -> bool
     ensures { λ r. ⌜ Gives (sameBytes (now (a .entry)) (now (b .entry))) r ⌝ }
@@ -134,6 +170,12 @@ pub fn same(a: &[u8], b: &[u8]) -> bool
         return false;
     }
     let mut i = 0;
+    while 8 <= a.len() - i {
+        if !same8(a, b, i) {
+            return false;
+        }
+        i += 8;
+    }
     while i < a.len() {
         if a[i] != b[i] {
             return false;

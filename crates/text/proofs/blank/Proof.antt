@@ -6,7 +6,7 @@ use mathlib.Core.Path.{_≡_, refl}
 use Prim.Native.Nat.{_-_, _≤_}
 use lib.ListN.{length, drop}
 use Rattle.text.specs.Bytes.{isSpace, isBlank}
-use Rattle.text.proofs.Loops.{blank-fails, blank-on, every-ends}
+use Rattle.text.proofs.Loops.{all-fails, all-on, every-ends}
 use Rattle.text.proofs.Words.{chunk-fails, chunk-on, last-eight}
 use Rattle.text.proofs.blank.Statement.{statement}
 use Rattle.text.proofs.blank.Tie as tie
@@ -60,7 +60,7 @@ shared-slice-read-if3 : tie.Need-shared-slice-read-if3 Inv-loop μ-loop Inv-loop
 shared-slice-read-if3 c = search needs
 
 returns-3 : tie.Need-returns-3 Inv-loop μ-loop Inv-loop2 μ-loop2
-returns-3 c = search blank-fails
+returns-3 c = search (all-fails 32)
 
 add-i-2 : tie.Need-add-i-2 Inv-loop μ-loop Inv-loop2 μ-loop2
 add-i-2 c = search needs
@@ -69,7 +69,7 @@ loop2-less : tie.Need-loop2-less Inv-loop μ-loop Inv-loop2 μ-loop2
 loop2-less c = search needs
 
 loop2-again : tie.Need-loop2-again Inv-loop μ-loop Inv-loop2 μ-loop2
-loop2-again c = (omega arith, search blank-on)
+loop2-again c = (omega arith, search (all-on 32))
 
 returns-4 : tie.Need-returns-4 Inv-loop μ-loop Inv-loop2 μ-loop2
 returns-4 c = search (every-ends isSpace)
