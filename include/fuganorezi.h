@@ -289,8 +289,8 @@ typedef struct fuganorezi_outcome {
 /*
  * The two buffers and the record or identifier share no memory with each other.
  *
- * Each call but opening first makes the file anew from the whole journal and compares, so it takes
- * the longer the more the journal has. For this it needs stack: less than 400 KiB (409,600 bytes)
+ * Each call but opening first goes once through the whole journal, checks each entry and compares
+ * with the file, so it takes the longer the more the journal has. It needs less than 64 KiB of stack
  * as compiled so far, whatever the length of the buffers; this is tested, not proved.
  *
  * The codes, in the order in which they are looked for. The place is 0 where none is given.

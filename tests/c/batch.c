@@ -6,6 +6,7 @@
 #include "fenced.h"
 #include "fuganorezi.h"
 #include "good_file.h"
+#include "histories.h"
 
 #include <ucontext.h>
 
@@ -18,8 +19,7 @@ enum {
     LONGEST_FILE = FUGANOREZI_FILE_MOST,
     LONGEST_JOURNAL = FUGANOREZI_JOURNAL_MOST,
     LONGEST_BYTES = 65536, /* of a record or identifier: far more than either has */
-    STACK = 400 * 1024,
-    COUNTS = 6,
+    STACK = 64 * 1024,
     LINE = 2 + COUNTS + 2
 };
 
@@ -28,17 +28,6 @@ _Static_assert(sizeof(fuganorezi_counts) == COUNTS * sizeof(uint64_t), "six numb
 _Static_assert(offsetof(fuganorezi_outcome, place) == 4, "behind the code");
 _Static_assert(offsetof(fuganorezi_outcome, counts) == 8, "behind the place");
 _Static_assert(sizeof(fuganorezi_outcome) == 8 + sizeof(fuganorezi_counts), "and nothing more");
-
-/* The first five are numbered as in the judged histories. */
-enum op { OPEN, ADD, CANCEL, AMEND, UNDO, SPOIL_FILE, SPOIL_JOURNAL, SPOIL_COUNT };
-
-/* A batch, and what its latest call answered. */
-struct batch {
-    uint8_t *file, *journal;
-    size_t file_length, journal_length;
-    fuganorezi_counts counts;
-    uint32_t code, place;
-};
 
 static struct fenced file_memory, journal_memory, bytes_memory, stack_memory;
 
@@ -60,20 +49,6 @@ static struct batch new_batch(size_t file_length, size_t journal_length)
     return b;
 }
 
-static uint64_t *count_of(fuganorezi_counts *counts, unsigned which)
-{
-    uint64_t *const all[COUNTS] = {&counts->live,  &counts->cancelled, &counts->cash,
-                                   &counts->price, &counts->held,      &counts->used};
-    if (which >= COUNTS)
-        give_up("a history", "names a count that there is not");
-    return all[which];
-}
-
-static uint64_t count_in(fuganorezi_counts counts, unsigned which)
-{
-    return *count_of(&counts, which);
-}
-
 /* Calls, on a stack of exactly the length that the header asks for. */
 
 static struct {
@@ -85,28 +60,6 @@ static struct {
 } pending;
 
 static ucontext_t caller, callee;
-
-static fuganorezi_outcome call(const struct batch *b, enum op op, const uint8_t *bytes, size_t length)
-{
-    static const fuganorezi_outcome none;
-    uint8_t *file = b->file, *journal = b->journal;
-    size_t n = b->file_length, m = b->journal_length;
-    switch (op) {
-    case OPEN:
-        return fuganorezi_batch_open(file, n, journal, m);
-    case ADD:
-        return fuganorezi_batch_add(file, n, journal, m, b->counts, bytes, length);
-    case CANCEL:
-        return fuganorezi_batch_cancel(file, n, journal, m, b->counts, bytes, length);
-    case AMEND:
-        return fuganorezi_batch_amend(file, n, journal, m, b->counts, bytes, length);
-    case UNDO:
-        return fuganorezi_batch_undo(file, n, journal, m, b->counts);
-    default:
-        give_up("a test", "calls what is no call");
-        return none;
-    }
-}
 
 static void perform_pending(void)
 {
@@ -347,25 +300,6 @@ static void ask_refusals(void)
 
 /* Judged histories */
 
-static void set_byte(uint8_t *buffer, size_t length, const uint8_t bytes[5])
-{
-    size_t at = four_bytes(bytes);
-    if (at < length)
-        buffer[at] = bytes[4];
-}
-
-/* Changes something behind the batch's back. */
-static void spoil(struct batch *b, enum op op, const uint8_t *bytes)
-{
-    if (op == SPOIL_FILE)
-        set_byte(b->file, b->file_length, bytes);
-    else if (op == SPOIL_JOURNAL)
-        set_byte(b->journal, b->journal_length, bytes);
-    else
-        *count_of(&b->counts, bytes[0]) = eight_bytes(bytes + 1);
-    b->code = b->place = 0;
-}
-
 static void expect_line(const char *what, unsigned long number, const struct batch *b, const uint64_t expected[LINE])
 {
     expect_answer(what, number, b, expected[0], expected[1]);
@@ -378,21 +312,17 @@ static void expect_line(const char *what, unsigned long number, const struct bat
 static void ask_history(const char *what, unsigned long *number, const struct item *item, FILE *lines,
                         const char *lines_path)
 {
-    struct batch b = new_batch(four_bytes(item->bytes), four_bytes(item->bytes + 4));
+    struct batch b = new_batch(history_file_length(item), history_journal_length(item));
     uint64_t expected[LINE];
-    size_t at = 8;
-    while (at < item->length) {
-        enum op op = (enum op)item->bytes[at];
-        size_t length = four_bytes(item->bytes + at + 1);
-        const uint8_t *bytes = item->bytes + at + 5;
+    struct step step;
+    for (size_t at = 0; next_step(item, &at, &step);) {
         ++*number;
-        if (op >= SPOIL_FILE)
-            spoil(&b, op, bytes);
+        if (step.op >= SPOIL_FILE)
+            spoil(&b, step.op, step.bytes);
         else
-            ask(what, *number, &b, op, bytes, length < LONGEST_BYTES ? length : LONGEST_BYTES);
+            ask(what, *number, &b, step.op, step.bytes, step.length < LONGEST_BYTES ? step.length : LONGEST_BYTES);
         read_line(lines, lines_path, expected, LINE);
         expect_line(what, *number, &b, expected);
-        at += 5 + length;
     }
 }
 

@@ -12,7 +12,7 @@ use borrow.Rule.Slice.PartMut.{putMid}
 use lib.ListN.{length, getD, take, drop, set, length-append, length-drop}
 use lib.Seq.{take-suc, take-all, drop-cons, set-at, append-snoc, length-take-le}
 use Rattle.text.specs.declared.Answer.{Answer}
-use Rattle.text.specs.Answers.{answer, accepted, orElse}
+use Rattle.text.specs.Answers.{answer, accepted}
 use Rattle.text.specs.Lists.{sameBytes}
 use Rattle.text.proofs.Lists.{spelled, put-is}
 use Rattle.ident.specs.Identifier.{rightId}
@@ -21,15 +21,15 @@ use Rattle.layout.specs.Layout.{fieldOf}
 use Rattle.text.proofs.AnswerLaws.{or-first, or-second}
 use Rattle.record.specs.Rules.{recordAnswer}
 use Rattle.posting.specs.File.{lineOf, idAt}
-use Rattle.batch.specs.Actions.{seek, liveAnswer, addAnswer, amendAnswer, cancelAnswer, withLine, actionAnswer}
+use Rattle.batch.specs.Places.{recordNumber, liveAnswer, addAnswer, amendAnswer, cancelAnswer, withLine, actionAnswer}
 
--- ---- seek: one record down
-seek-down : (file id : List ℕ) (j : ℕ) → 0 < j → seek file id j ≡ cond (sameBytes (idAt file (j - 1)) id) j (seek file id (j - 1))
-unfolding seek
+-- ---- recordNumber: one record down
+seek-down : (file id : List ℕ) (j : ℕ) → 0 < j → recordNumber file id j ≡ cond (sameBytes (idAt file (j - 1)) id) j (recordNumber file id (j - 1))
+unfolding recordNumber
 seek-down file id zero h = absurd (omega arith)
 seek-down file id (suc j) h = let e : suc j - 1 ≡ j = omega arith in rw e
 
-module _ (file id : List ℕ) (j r : ℕ) (b : Bool) (known : seek file id j ≡ r) (h : 0 < j)
+module _ (file id : List ℕ) (j r : ℕ) (b : Bool) (known : recordNumber file id j ≡ r) (h : 0 < j)
     (eb : b ≡ sameBytes (take ((j - 1) * 401 + 13 - (j - 1) * 401) (drop ((j - 1) * 401) file)) id) where
   here : b ≡ sameBytes (idAt file (j - 1)) id
   here = eb ∙ rw (add-sub-cancel-left)
@@ -37,15 +37,15 @@ module _ (file id : List ℕ) (j r : ℕ) (b : Bool) (known : seek file id j ≡
   pub seek-found : b ≡ true → j ≡ r
   seek-found t = rw (seek-down file id j h, ← here, t) at known
 
-  pub seek-on : b ≡ false → seek file id (j - 1) ≡ r
+  pub seek-on : b ≡ false → recordNumber file id (j - 1) ≡ r
   seek-on t = rw (seek-down file id j h, ← here, t) at known
 
-pub seek-none : (file id : List ℕ) (j r : ℕ) → seek file id j ≡ r → j ≤ 0 → 0 ≡ r
-unfolding seek
+pub seek-none : (file id : List ℕ) (j r : ℕ) → recordNumber file id j ≡ r → j ≤ 0 → 0 ≡ r
+unfolding recordNumber
 seek-none file id j r known h = let z : j ≡ 0 = omega arith in rw z at known
 
 -- ---- live_answer
-module _ (file id : List ℕ) (held n : ℕ) (en : (n ≡ seek file id held) × (n ≤ held)) where
+module _ (file id : List ℕ) (held n : ℕ) (en : (n ≡ recordNumber file id held) × (n ≤ held)) where
   pub not-present : n ≡ 0 → answer 232 0 ≡ liveAnswer file held id
   not-present z = rw (← en .0, z)
 
@@ -71,7 +71,7 @@ module _ (file rec : List ℕ) (held : ℕ) (a : Answer) (ea : a ≡ recordAnswe
     unfolding amendAnswer
     amend-live r e = rw (← ea, ← ei) (e ∙ or-second a (liveAnswer file held id) z)
 
-    module _ (n : ℕ) (en : (n ≡ seek file id held) × (n ≤ held)) where
+    module _ (n : ℕ) (en : (n ≡ recordNumber file id held) × (n ≤ held)) where
       pub add-repeats : (n ≡ 0 → ⊥) → answer 2 1 ≡ addAnswer file held rec
       unfolding addAnswer
       add-repeats m = rw (← ea, ← ei, ← en .0, ne-eqb n 0 m) (or-second a (answer 2 1) z)

@@ -1,7 +1,7 @@
 -- Amounts and counts: each way out of the functions.
 -- Assumes nothing.
 use Prim.Native.Nat.{ℕ, _+_, _-_, _*_, _≤_, _<_}
-use mathlib.Core.Path.{_≡_, sym, ap, ap₂, _∙_}
+use mathlib.Core.Path.{_≡_, ap, ap₂, _∙_}
 use mathlib.Core.List.{List}
 use native.Mathlib.Nat.{add-zero, add-sub-cancel-left}
 use native.Mathlib.Omega.{arith}
@@ -16,15 +16,15 @@ use Rattle.posting.specs.Calls.{sumOfTotals, totalOr}
 use Rattle.posting.specs.File.{totals, amountOf, plusTotals}
 use Rattle.posting.proofs.Amounts.{Light, small-sum}
 use Rattle.batch.specs.declared.Counts.{Counts}
-use Rattle.batch.specs.Actions.{seek, oneLiveMore, oneCancelled, amountsReplaced}
-use Rattle.batch.specs.Journal.{bodyLength}
+use Rattle.batch.specs.Places.{recordNumber, oneLiveMore, oneCancelled, amountsReplaced}
+use Rattle.batch.specs.Entries.{bodyLength}
 use Rattle.batch.specs.Batch.{countsOf}
-use Rattle.batch.specs.Guards.{countsAfter}
+use Rattle.batch.specs.Work.{countsAfter}
 
-abbrev countsBy : ℕ → ℕ → Hellers → Hellers → ℕ → ℕ → Counts
+abbrev pub countsBy : ℕ → ℕ → Hellers → Hellers → ℕ → ℕ → Counts
 countsBy l k d p held used = countsOf (record { live = l; cancelled = k; cash = d; price = p }) held used
 
-same-counts : (l k held used d p : ℕ) (d′ p′ : Hellers) → d′ .0 ≡ d → p′ .0 ≡ p → countsBy l k d′ p′ held used ≡ countsOf (totals l k d p) held used
+pub same-counts : (l k held used d p : ℕ) (d′ p′ : Hellers) → d′ .0 ≡ d → p′ .0 ≡ p → countsBy l k d′ p′ held used ≡ countsOf (totals l k d p) held used
 same-counts l k held used d p d′ p′ ed ep = ap₂ (λ (x y : ℕ). countsOf (totals l k x y) held used) ed ep
 
 -- what was passed on is small, so the sum fits
@@ -59,7 +59,7 @@ replaced c oldCash oldPrice cash price d p s r pre ed ep es er =
 pub grown-fits : (c m : Counts) (t : Totals) (h n : ℕ) → c .used + 403 < 2000000 → m ≡ countsOf t h (c .used) → n ≤ 403 → m .used + n < 2000000
 grown-fits c m t h n r e l = omega (arith, ap (λ (x : Counts). x .used) e)
 
-abbrev Amount : List ℕ → ℕ → Hellers → Type 0
+abbrev pub Amount : List ℕ → ℕ → Hellers → Type 0
 Amount rec n h = (h ≡ amountOf rec n) × (h .0 < 100000000000)
 
 module _ (file body : List ℕ) (c m out : Counts) (kind : ℕ) where
@@ -68,16 +68,16 @@ module _ (file body : List ℕ) (c m out : Counts) (kind : ℕ) where
   unfolding countsAfter
   counted-add d p k ed ep em eo = eo ∙ rw (em, ed .0, ep .0, k)
 
-  pub counted-amend : (d p d′ p′ : Hellers) (id : List ℕ) (n : ℕ) → (kind ≡ 1 → ⊥) → kind ≡ 3 → id ≡ fieldOf body 1 → (n ≡ seek file id (c .held)) × (n ≤ c .held)
+  pub counted-amend : (d p d′ p′ : Hellers) (id : List ℕ) (n : ℕ) → (kind ≡ 1 → ⊥) → kind ≡ 3 → id ≡ fieldOf body 1 → (n ≡ recordNumber file id (c .held)) × (n ≤ c .held)
       → Amount (take ((n - 1) * 401 + 399 - (n - 1) * 401) (drop ((n - 1) * 401) file)) 16 d → Amount (take ((n - 1) * 401 + 399 - (n - 1) * 401) (drop ((n - 1) * 401) file)) 17 p
       → Amount body 16 d′ → Amount body 17 p′ → m ≡ countsOf (amountsReplaced (c .totals) (d .0) (p .0) (d′ .0) (p′ .0)) (c .held) (c .used)
       → out ≡ countsOf (m .totals) (m .held) (m .used + 403) → out ≡ countsAfter file c kind body
   unfolding countsAfter
   counted-amend d p d′ p′ id n not1 k ei en ed ep ed′ ep′ em eo =
-      let place : n ≡ seek file (fieldOf body 1) (c .held) = en .0 ∙ ap (λ (x : List ℕ). seek file x (c .held)) ei in
+      let place : n ≡ recordNumber file (fieldOf body 1) (c .held) = en .0 ∙ ap (λ (x : List ℕ). recordNumber file x (c .held)) ei in
       eo ∙ rw (em, ed .0, ep .0, ed′ .0, ep′ .0, add-sub-cancel-left, place, k)
 
-  pub counted-cancel : (d p : Hellers) (n b : ℕ) → (kind ≡ 1 → ⊥) → (kind ≡ 3 → ⊥) → (n ≡ seek file body (c .held)) × (n ≤ c .held)
+  pub counted-cancel : (d p : Hellers) (n b : ℕ) → (kind ≡ 1 → ⊥) → (kind ≡ 3 → ⊥) → (n ≡ recordNumber file body (c .held)) × (n ≤ c .held)
       → Amount (take ((n - 1) * 401 + 399 - (n - 1) * 401) (drop ((n - 1) * 401) file)) 16 d → Amount (take ((n - 1) * 401 + 399 - (n - 1) * 401) (drop ((n - 1) * 401) file)) 17 p
       → m ≡ countsOf (oneCancelled (c .totals) (d .0) (p .0)) (c .held) (c .used) → (b ≡ bodyLength kind) × (13 ≤ b) × (b ≤ 399)
       → out ≡ countsOf (m .totals) (m .held) (m .used + (b + 4)) → out ≡ countsAfter file c kind body

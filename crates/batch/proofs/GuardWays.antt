@@ -1,126 +1,67 @@
--- The test of the state, and writing entries: each way out of the functions.
+-- The guard of the calls, and writing entries: each way out of the functions.
 -- Assumes nothing.
-use Prim.Native.Nat.{ℕ, _+_, _-_, _*_, _%_, _≤_, _<_}
-use mathlib.Core.Path.{_≡_, refl, sym, ap, _∙_}
-use mathlib.Core.Bool.{Bool, true, false, cond, not, _&&_, and-eq-true-iff}
+use Prim.Native.Nat.{ℕ, _+_, _-_, _≤_}
+use mathlib.Core.Path.{_≡_, refl, sym, _∙_}
+use mathlib.Core.Bool.{Bool, true, false, cond, not}
+use mathlib.Core.Option.{Option, none, some}
 use mathlib.Core.List.{List, [], _∷_, _++_, append-nil}
 use native.Mathlib.Omega.{arith}
-use borrow.Author.Tests.{eq-eqb, ne-eqb, le-leb, lt-leb, leb-true, eqb-true, not-true, not-false}
+use borrow.Author.Tests.{not-true, not-false}
 use borrow.Rule.Slice.PartMut.{putMid}
-use lib.Dec.{eqb, leb}
-use lib.ListN.{length, getD, take, drop, set, replicate, length-replicate, drop-of-length-le}
+use lib.Dec.{eqb}
+use lib.ListN.{length, getD, take, drop, set, drop-of-length-le}
 use lib.Seq.{take-all, length-take-le}
 use Rattle.text.specs.Answers.{answer, accepted}
-use Rattle.text.specs.Bytes.{every}
-use Rattle.text.specs.Lists.{sameBytes, overlay}
+use Rattle.text.specs.Lists.{overlay}
 use Rattle.text.proofs.Lists.{spelled, put-is}
-use Rattle.text.proofs.Booleans.{clash}
-use Rattle.posting.specs.declared.Totals.{Totals}
-use Rattle.posting.specs.File.{totalsOver}
 use Rattle.batch.specs.declared.Counts.{Counts}
-use Rattle.batch.specs.declared.Verdict.{Verdict}
-use Rattle.batch.specs.declared.Walk.{Walk}
-use Rattle.batch.specs.Journal.{head, entry, rebuilt}
-use Rattle.batch.specs.Duties.{Replayed}
-use Rattle.batch.specs.Batch.{batchOf, isZero, sameTotals, sound, rightLengths}
-use Rattle.batch.specs.Guards.{Verified, Guarded}
-
--- totals whose numbers are the same
-record-of : (l k d q : ℕ) → Totals
-record-of l k d q = record { live = l; cancelled = k; cash = record { 0 = d }; price = record { 0 = q } }
-
-four : (l k d q l′ k′ d′ q′ : ℕ) → l ≡ l′ → k ≡ k′ → d ≡ d′ → q ≡ q′ → record-of l k d q ≡ record-of l′ k′ d′ q′
-four l k d q l′ k′ d′ q′ a b e f = rw (a, b, e, f)
-
-pub totals-same : (a b : Totals) → sameTotals a b ≡ true → a ≡ b
-unfolding record-of
-totals-same a b h =
-    let p4 = and-eq-true-iff (eqb (a .live) (b .live) && eqb (a .cancelled) (b .cancelled) && eqb (a .cash .0) (b .cash .0)) (eqb (a .price .0) (b .price .0)) .0 h in
-    let p3 = and-eq-true-iff (eqb (a .live) (b .live) && eqb (a .cancelled) (b .cancelled)) (eqb (a .cash .0) (b .cash .0)) .0 (p4 .0) in
-    let p2 = and-eq-true-iff (eqb (a .live) (b .live)) (eqb (a .cancelled) (b .cancelled)) .0 (p3 .0) in
-    four (a .live) (a .cancelled) (a .cash .0) (a .price .0) (b .live) (b .cancelled) (b .cash .0) (b .price .0)
-    (eqb-true (a .live) (b .live) (p2 .0)) (eqb-true (a .cancelled) (b .cancelled) (p2 .1)) (eqb-true (a .cash .0) (b .cash .0) (p3 .1)) (eqb-true (a .price .0) (b .price .0) (p4 .1))
-
--- a test that failed
-refused-by : (file journal : List ℕ) (c : Counts) (r : Verdict) → r .sound ≡ false → sound (batchOf file journal c) ≡ false → Verified file journal c r
-refused-by file journal c r f e = record { says = f ∙ sym e; ready = λ y. absurd (clash y f); finds = λ y. absurd (clash y f) }
-
-pub used-past : (file journal : List ℕ) (c : Counts) (r : Verdict) → r .sound ≡ false → length journal < c .used → Verified file journal c r
-unfolding sound
-used-past file journal c r f h = refused-by file journal c r f (rw (lt-leb (c .used) (length journal) h))
-
--- as many records as the replay counts have their places in the file
-pub holds-so : (scratch journal : List ℕ) (size end held : ℕ) (w : Walk) (made : List ℕ) → length scratch ≡ size → Replayed scratch journal end w made → w .held ≡ held
-    → (held ≤ 999) × (held * 401 ≤ size)
-holds-so scratch journal size end held w made e p h = (rw (← h) (p .holds .0), rw (← h, ← e) (p .holds .1))
-
--- the replay of a sound batch, in a scratch buffer as long as the file
-module _ (scratch file journal : List ℕ) (c : Counts) (pre : (length scratch ≡ length file) × (length file ≤ 400599)) (u : c .used ≤ length journal)
-    (w : Walk) (made : List ℕ) (p : Replayed scratch journal (c .used) w made) where
-  walk-is : rebuilt (length file) journal (c .used) .walk ≡ w
-  walk-is = rw (← pre .0) (sym (p .walks))
-
-  file-is : rebuilt (length file) journal (c .used) .file ≡ made
-  file-is = rw (← pre .0) (sym (p .files))
-
-  pub walk-bad : (r : Verdict) → r .sound ≡ false → not (w .good) ≡ true → Verified file journal c r
-  unfolding sound
-  walk-bad r f n = refused-by file journal c r f (rw (le-leb (c .used) (length journal) u, walk-is, not-true (w .good) n))
-
-  module _ (g : not (w .good) ≡ false) where
-    pub held-other : (r : Verdict) → r .sound ≡ false → (w .held ≡ c .held → ⊥) → Verified file journal c r
-    unfolding sound
-    held-other r f n = refused-by file journal c r f (rw (le-leb (c .used) (length journal) u, walk-is, not-false (w .good) g, ne-eqb (w .held) (c .held) n))
-
-    module _ (h : w .held ≡ c .held) (s : Bool) (es : s ≡ sameBytes made file) where
-      pub file-other : (r : Verdict) → r .sound ≡ false → not s ≡ true → Verified file journal c r
-      unfolding sound
-      file-other r f n = refused-by file journal c r f (rw (le-leb (c .used) (length journal) u, walk-is, file-is, not-false (w .good) g, eq-eqb (w .held) (c .held) h, ← es, not-true s n))
-
-      module _ (ns : not s ≡ false) (z : Bool) (ez : z ≡ every isZero (drop (c .used) journal)) where
-        pub rest-not-zero : (r : Verdict) → r .sound ≡ false → not z ≡ true → Verified file journal c r
-        unfolding sound
-        rest-not-zero r f n = refused-by file journal c r f (rw (le-leb (c .used) (length journal) u, walk-is, file-is, not-false (w .good) g, eq-eqb (w .held) (c .held) h, ← es, not-false s ns, ← ez, not-true z n))
-
-        pub by-totals : (t : Totals) (r : Bool) → not z ≡ false → t ≡ totalsOver file (c .held) → r ≡ sameTotals t (c .totals) → Verified file journal c (record { sound = r; last = w .last })
-        unfolding sound
-        by-totals t r nz et er =
-            let holds = holds-so scratch journal (length file) (c .used) (c .held) w made (pre .0) p h in
-            record {
-              says = rw (le-leb (c .used) (length journal) u, walk-is, file-is, not-false (w .good) g, eq-eqb (w .held) (c .held) h, ← es, not-false s ns, ← ez, not-false z nz, ← et) er;
-              ready = λ y. record { few = holds .0; fits = holds .1; within = u; totals = sym (totals-same t (c .totals) (sym er ∙ y)) ∙ et; back = omega (arith, p .back, ap (λ (x : Walk). x .last) walk-is) };
-              finds = λ y. sym (ap (λ (x : Walk). x .last) walk-is);
-            }
-
--- ---- verify
-pub scratch-long : (n k a : ℕ) → n ≤ k → length (take n (replicate k a)) ≡ n
-scratch-long n k a h = length-take-le n (replicate k a) (rw (length-replicate k a) h)
+use Rattle.batch.specs.declared.test.Finding.{Finding}
+use Rattle.batch.specs.Entries.{head, entry}
+use Rattle.batch.specs.Rules.{posted}
+use Rattle.batch.specs.Batch.{Batch, batchOf, rightLengths, fileLength, journalLength, Call, Open, Add, Amend, Cancel, Undo, State, standsIn, Stands, answerTo}
+use Rattle.batch.specs.Test.{Tested}
+use Rattle.batch.specs.Work.{Guarded}
+use Rattle.batch.proofs.Standing.{stands-exactly}
 
 -- ---- guard
-pub lengths-wrong : (file journal : List ℕ) (c : Counts) (b : Bool) → b ≡ rightLengths (length file) (length journal) → not b ≡ true → Guarded file journal c (record { answer = answer 235 0; last = 0 })
-lengths-wrong file journal c b e n = record { says = rw (← e, not-true b n); ready = λ z. absurd (omega (arith, z)); lengths = λ z. absurd (omega (arith, z)); finds = λ z. absurd (omega (arith, z)) }
+short-answer : (b : Batch) → rightLengths (fileLength b) (journalLength b) ≡ false → (call : Call) → answerTo posted b call ≡ answer 235 0
+unfolding answerTo
+short-answer b e call = rw e
 
-pub lengths-bounded : (n m : ℕ) → rightLengths n m ≡ true → (n ≤ 400599) × (m ≤ 1048576)
-unfolding rightLengths
-lengths-bounded n m t =
-    let p = and-eq-true-iff (eqb (n % 401) 0 && leb 401 n && leb n 400599 && leb 403 m) (leb m 1048576) .0 t in
-    let q = and-eq-true-iff (eqb (n % 401) 0 && leb 401 n && leb n 400599) (leb 403 m) .0 (p .0) in
-    (leb-true n 400599 (and-eq-true-iff (eqb (n % 401) 0 && leb 401 n) (leb n 400599) .0 (q .0) .1), leb-true m 1048576 (p .1))
+pub guard-short : (file journal : List ℕ) (c : Counts) (r : Bool) → r ≡ rightLengths (length file) (length journal) → not r ≡ true → Guarded (batchOf file journal c) (record { answer = answer 235 0; last = 0 })
+guard-short file journal c r e n = record {
+  if-so = λ z. absurd (omega (arith, z));
+  if-not = λ z call other. short-answer (batchOf file journal c) (sym e ∙ not-true r n) call;
+}
 
-pub lengths-file : (n m : ℕ) (b : Bool) → b ≡ rightLengths n m → not b ≡ false → n ≤ 400599
-lengths-file n m b e f = lengths-bounded n m (sym e ∙ not-false b f) .0
+nothing-stands : (b : Batch) → ((s : State) → Stands posted b s → ⊥) → standsIn posted b ≡ none
+nothing-stands b never = go (standsIn posted b) refl
+  where
+    go : (o : Option State) → standsIn posted b ≡ o → o ≡ none
+    go none e = refl
+    go (some s) e = absurd (never s (stands-exactly posted b s .0 e))
 
-module _ (file journal : List ℕ) (c : Counts) (b : Bool) (e : b ≡ rightLengths (length file) (length journal)) (f : not b ≡ false) (v : Verdict) (ev : Verified file journal c v) where
-  pub not-sound : not (v .sound) ≡ true → Guarded file journal c (record { answer = answer 237 0; last = 0 })
-  not-sound n = record { says = rw (← e, not-false b f, ← ev .says, not-true (v .sound) n); ready = λ z. absurd (omega (arith, z)); lengths = λ z. absurd (omega (arith, z)); finds = λ z. absurd (omega (arith, z)) }
+none-answer : (b : Batch) → rightLengths (fileLength b) (journalLength b) ≡ true → standsIn posted b ≡ none → (call : Call) → (call ≡ Open → ⊥) → answerTo posted b call ≡ answer 237 0
+unfolding answerTo
+none-answer b good e Open other = absurd (other refl)
+none-answer b good e (Add rec) other = rw (good, e)
+none-answer b good e (Amend rec) other = rw (good, e)
+none-answer b good e (Cancel id) other = rw (good, e)
+none-answer b good e Undo other = rw (good, e)
 
-  pub all-sound : not (v .sound) ≡ false → Guarded file journal c (record { answer = accepted; last = v .last })
-  all-sound n = record {
-    says = rw (← e, not-false b f, ← ev .says, not-false (v .sound) n);
-    ready = λ z. ev .ready (not-false (v .sound) n);
-    lengths = λ z. sym e ∙ not-false b f;
-    finds = λ z. ev .finds (not-false (v .sound) n);
-  }
+module _ (file journal : List ℕ) (c : Counts) (r : Bool) (e : r ≡ rightLengths (length file) (length journal)) (n : not r ≡ false) where
+  pub guard-long : rightLengths (length file) (length journal) ≡ true
+  guard-long = sym e ∙ not-false r n
+
+  module _ (f : Finding) (t : Tested (batchOf file journal c) f) where
+    pub guard-nothing : not (f .stands) ≡ true → Guarded (batchOf file journal c) (record { answer = answer 237 0; last = 0 })
+    guard-nothing x = record {
+      if-so = λ z. absurd (omega (arith, z));
+      if-not = λ z call other. none-answer (batchOf file journal c) guard-long (nothing-stands (batchOf file journal c) (t .if-not (not-true (f .stands) x))) call other;
+    }
+
+    pub guard-found : not (f .stands) ≡ false → Guarded (batchOf file journal c) (record { answer = accepted; last = f .last })
+    guard-found x = record { if-so = λ z. t .if-so (not-false (f .stands) x); if-not = λ z. absurd (z refl) }
 
 -- ---- writing entries
 pub copied-all : (s t u : List ℕ) (i : ℕ) → length s ≡ length t → length t ≤ i → i ≤ length t → u ≡ take i t ++ drop i s → u ≡ t

@@ -1,80 +1,113 @@
--- The history of a batch: lists of actions performed, openings, and undos after an accepted action.
+-- The history of a batch, under any verdict that is fit: calls by the rules on what a state makes, lists of actions performed, and an undo after an
+-- accepted action.
 -- Assumes nothing.
-use Prim.Native.Nat.{ℕ, _%_}
+use Prim.Native.Nat.{ℕ, _-_, _/_}
 use mathlib.Core.Path.{_≡_, refl, sym, ap, _∙_, subst}
-use mathlib.Core.Bool.{true, _&&_, and-eq-true-iff}
-use mathlib.Core.Logic.{_↔_}
+use mathlib.Core.Bool.{Bool, true, false, cond, and-eq-true-iff}
 use mathlib.Core.List.{List, [], _∷_, _++_, map, append-assoc, append-nil}
 use native.Mathlib.Omega.{arith}
-use borrow.Author.Tests.{eq-eqb, eqb-true, leb-true, le-leb}
+use borrow.Author.Tests.{eqb-true, eqb-false}
 use lib.Dec.{eqb, leb}
 use lib.ListN.{length}
-use Rattle.text.proofs.Booleans.{by-cond}
 use Rattle.text.specs.declared.Answer.{Answer}
-use Rattle.text.specs.Answers.{accepted}
-use Rattle.batch.specs.Batch.{Batch, Call, Open, Undo, rightLengths, sound, ready, answerTo, after}
-use Rattle.batch.specs.History.{Action, Addition, Amendment, Cancellation, callOf, undoRule, rules, made, InTurnBehind, InTurn, withoutLatest, standingAfter, standingByRule, standingBehind, answersBehind, Performed, GoodLengths, Undoes}
-use Rattle.batch.proofs.Exactly.{Stands, found}
-use Rattle.batch.proofs.Turning.{answered-by-rules, Taken, opening, turned}
+use Rattle.text.specs.Answers.{accepted, orElse}
+use Rattle.text.proofs.Booleans.{by-cond}
+use Rattle.batch.specs.Actions.{Action, Addition, Amendment, Cancellation, kindOf, sized, entryLength, entriesOf}
+use Rattle.batch.specs.Records.{recordsOf}
+use Rattle.batch.specs.Rules.{Verdict, Fit, actionRule, entryRule, ruleBehind, inTurnBehind, inTurn}
+use Rattle.batch.specs.Batch.{Batch, Call, Open, Add, Amend, Cancel, Undo, rightLengths, State, state, made, undoRule, rules, withoutLatest, with, next, fileLength, journalLength, Stands, answerTo, unchanged, after}
+use Rattle.batch.specs.History.{callOf, standingByRule, standingBehind, answersBehind, Performed, Undoes}
+use Rattle.batch.proofs.Made.{made-file-long, made-journal-long, turns-fit, turns-next, made-stands, answered-by-rules, accepted-leaves}
+use Rattle.batch.proofs.CallsMet.{accepted-by}
 
--- ---- an action that is accepted
-call-stands : (xs : List Action) (a : Action) → standingAfter xs (callOf a) ≡ xs ++ a ∷ []
-call-stands xs (Addition rec) = refl
-call-stands xs (Amendment rec) = refl
-call-stands xs (Cancellation id) = refl
+-- ---- the call of an action
+pub call-next : (s : State) (a : Action) → next s (callOf a) ≡ with s a
+call-next s (Addition rec) = refl
+call-next s (Amendment rec) = refl
+call-next s (Cancellation id) = refl
 
-accepted-stands : (n m : ℕ) (xs : List Action) (a : Action) → rules n m xs (callOf a) .code ≡ 0 → standingByRule n m xs (callOf a) ≡ xs ++ a ∷ []
-accepted-stands n m xs a z = rw (eq-eqb (rules n m xs (callOf a) .code) 0 z) (call-stands xs a)
+pub call-rules : (v : Verdict) (n m : ℕ) (s : State) (a : Action) → rules v n m s (callOf a) ≡ ruleBehind v n m (s .actions) a
+unfolding rules
+call-rules v n m s (Addition rec) = refl
+call-rules v n m s (Amendment rec) = refl
+call-rules v n m s (Cancellation id) = refl
+
+pub no-opening : (a : Action) → callOf a ≡ Open → ⊥
+no-opening (Addition rec) e = let z : _≡_ {A = ℕ} 0 1 = cc in omega arith
+no-opening (Amendment rec) e = let z : _≡_ {A = ℕ} 0 1 = cc in omega arith
+no-opening (Cancellation id) e = let z : _≡_ {A = ℕ} 0 1 = cc in omega arith
+
+-- an action with code 0 is accepted, at no place
+pub zero-accepted : (v : Verdict) (n m : ℕ) (before : List Action) (a : Action) → ruleBehind v n m before a .code ≡ 0 → ruleBehind v n m before a ≡ accepted
+unfolding entryRule orElse
+zero-accepted v n m before a =
+    by-cond P (sized a) _ _
+    (λ e. by-cond P (eqb (actionRule v (recordsOf before) (n / 401) a .code) 0) _ _
+    (λ z. by-cond P (leb (entryLength (kindOf a)) (m - length (entriesOf before))) _ _ (λ l h. refl) (λ l h. absurd (omega (arith, h))))
+    (λ z h. absurd (eqb-false _ 0 z h)))
+    (λ e h. absurd (omega (arith, h)))
+  where
+    P : Answer → Type 0
+    P r = r .code ≡ 0 → r ≡ accepted
 
 -- ---- a list performed by the rules
-record PerformedBehind (n m : ℕ) (before xs : List Action) : Type 0 where
-  answers : answersBehind n m before (map callOf xs) ≡ map (λ a. accepted) xs
-  stands : standingBehind n m before (map callOf xs) ≡ before ++ xs
+record PerformedBehind (v : Verdict) (n m : ℕ) (before xs : List Action) : Type 0 where
+  answers : answersBehind v n m (state before) (map callOf xs) ≡ map (λ a. accepted) xs
+  stands : standingBehind v n m (state before) (map callOf xs) ≡ state (before ++ xs)
 
-perform : (n m : ℕ) (before xs : List Action) → InTurnBehind n m before xs → PerformedBehind n m before xs
-perform n m before [] t = record { answers = refl; stands = sym (append-nil before) }
-perform n m before (a ∷ xs) t =
-    let list = accepted-stands n m before a (ap (λ (r : Answer). r .code) (t .0)) in
-    let i = perform n m (before ++ a ∷ []) xs (t .1) in
+perform : (v : Verdict) (n m : ℕ) (before xs : List Action) → inTurnBehind v n m before xs ≡ true → PerformedBehind v n m before xs
+unfolding inTurnBehind
+perform v n m before [] t = record { answers = refl; stands = ap state (sym (append-nil before)) }
+perform v n m before (a ∷ xs) t =
+    let p = and-eq-true-iff (eqb (ruleBehind v n m before a .code) 0) (inTurnBehind v n m (before ++ a ∷ []) xs) .0 t in
+    let met : rules v n m (state before) (callOf a) ≡ accepted = call-rules v n m (state before) a ∙ zero-accepted v n m before a (eqb-true _ 0 (p .0)) in
+    let on : standingByRule v n m (state before) (callOf a) ≡ state (before ++ a ∷ []) = rw met (call-next (state before) a) in
+    let i = perform v n m (before ++ a ∷ []) xs (p .1) in
     record {
-      answers = λ j. t .0 j ∷ (ap (λ (ys : List Action). answersBehind n m ys (map callOf xs)) list ∙ i .answers) j;
-      stands = ap (λ (ys : List Action). standingBehind n m ys (map callOf xs)) list ∙ i .stands ∙ append-assoc before (a ∷ []) xs;
+      answers = λ j. met j ∷ (ap (λ (s : State). answersBehind v n m s (map callOf xs)) on ∙ i .answers) j;
+      stands = ap (λ (s : State). standingBehind v n m s (map callOf xs)) on ∙ i .stands ∙ ap state (append-assoc before (a ∷ []) xs);
     }
 
-pub performed : (n m : ℕ) (xs : List Action) → InTurn n m xs → Performed n m xs
-performed n m xs t = let p = perform n m [] xs t in record { answers = p .answers; stands = p .stands }
+pub performed : (v : Verdict) (n m : ℕ) (xs : List Action) → inTurn v n m xs ≡ true → Performed v n m xs
+performed v n m xs t = let p = perform v n m [] xs t in record { answers = p .answers; stands = p .stands }
 
-module _ (n m : ℕ) (good : rightLengths n m ≡ true) where
-  action-taken : (xs : List Action) (a : Action) → Stands n m xs → answerTo (made n m xs) (callOf a) .code ≡ 0 → Taken n m (after (made n m xs) (callOf a)) (xs ++ a ∷ [])
-  action-taken xs a st z =
-      let ruled = ap (λ (r : Answer). r .code) (sym (answered-by-rules n m good xs st (callOf a))) ∙ z in
-      subst (Taken n m (after (made n m xs) (callOf a))) (accepted-stands n m xs a ruled) (turned n m good xs st (callOf a))
+-- ---- one call on what a state makes, by the rules
+module _ (v : Verdict) (fit : Fit v) (n m : ℕ) (good : rightLengths n m ≡ true) (s : State) (t : inTurn v n m (s .actions) ≡ true) where
+  pub stands-here : Stands v (made n m s) s
+  stands-here = made-stands v fit n m good s t
 
--- ---- the lengths
-pub lengths-exactly : (n m : ℕ) → (rightLengths n m ≡ true) ↔ GoodLengths n m
-unfolding rightLengths
-lengths-exactly n m = (
-  λ t.
-      let p = and-eq-true-iff (eqb (n % 401) 0 && leb 401 n && leb n 400599 && leb 403 m) (leb m 1048576) .0 t in
-      let q = and-eq-true-iff (eqb (n % 401) 0 && leb 401 n && leb n 400599) (leb 403 m) .0 (p .0) in
-      let r = and-eq-true-iff (eqb (n % 401) 0 && leb 401 n) (leb n 400599) .0 (q .0) in
-      let s = and-eq-true-iff (eqb (n % 401) 0) (leb 401 n) .0 (r .0) in
-      record { multiple = eqb-true _ _ (s .0); least = leb-true _ _ (s .1); most = leb-true _ _ (r .1); journalLeast = leb-true _ _ (q .1); journalMost = leb-true _ _ (p .1) },
-  λ g. rw (eq-eqb (n % 401) 0 (g .multiple), le-leb 401 n (g .least), le-leb n 400599 (g .most), le-leb 403 m (g .journalLeast), le-leb m 1048576 (g .journalMost)),
-)
+  file-here : fileLength (made n m s) ≡ n
+  file-here = made-file-long n m (s .actions) (turns-fit v fit n m (s .actions) t)
 
--- ---- an opening, whatever the buffers and counts held
-module _ (b : Batch) (g : GoodLengths (length (b .file)) (length (b .journal))) where
-  good-lengths : rightLengths (length (b .file)) (length (b .journal)) ≡ true
-  good-lengths = lengths-exactly (length (b .file)) (length (b .journal)) .1 g
+  journal-here : journalLength (made n m s) ≡ m
+  journal-here = made-journal-long n m (s .actions) (turns-fit v fit n m (s .actions) t)
 
-  pub opens : answerTo b Open ≡ accepted
-  unfolding answerTo
-  opens = rw good-lengths
+  rules-here : (call : Call) → rules v (fileLength (made n m s)) (journalLength (made n m s)) s call ≡ rules v n m s call
+  rules-here call = λ i. rules v (file-here i) (journal-here i) s call
 
-  pub opened-is : after b Open ≡ made (length (b .file)) (length (b .journal)) []
+  pub answer-here : (call : Call) → answerTo v (made n m s) call ≡ rules v n m s call
+  answer-here call = answered-by-rules v (made n m s) s stands-here call ∙ rules-here call
+
+  -- an opening is never refused
+  stays : (call : Call) → (rules v n m s call .code ≡ 0 → ⊥) → unchanged (made n m s) call ≡ made n m s
+  unfolding rules
+  stays Open refused = absurd (refused refl)
+  stays (Add rec) refused = refl
+  stays (Amend rec) refused = refl
+  stays (Cancel id) refused = refl
+  stays Undo refused = refl
+
+  pub after-here : (call : Call) → after v (made n m s) call ≡ made n m (standingByRule v n m s call)
   unfolding after
-  opened-is = rw opens (opening (length (b .file)) (length (b .journal)))
+  after-here call = go (eqb (rules v n m s call .code) 0) refl
+    where
+      go : (q : Bool) → eqb (rules v n m s call .code) 0 ≡ q → after v (made n m s) call ≡ made n m (cond q (next s call) s)
+      go true e =
+          accepted-leaves v (made n m s) s stands-here call (ap (λ (r : Answer). r .code) (rules-here call) ∙ eqb-true _ 0 e) ∙ (λ i. made (file-here i) (journal-here i) (next s call))
+      go false e = rw (answer-here call, e) (stays call (eqb-false _ 0 e))
+
+  pub turns-here : (call : Call) → inTurn v n m (standingByRule v n m s call .actions) ≡ true
+  turns-here call = by-cond (λ (x : State). inTurn v n m (x .actions) ≡ true) (eqb (rules v n m s call .code) 0) _ _ (λ e. turns-next v n m s call t (eqb-true _ 0 e)) (λ e. t)
 
 -- ---- an undo after an accepted action gives back the batch before it
 without-latest : (xs : List Action) (a : Action) → withoutLatest (xs ++ a ∷ []) ≡ xs
@@ -86,39 +119,19 @@ some-stands : (xs : List Action) (a : Action) → undoRule (xs ++ a ∷ []) ≡ 
 some-stands [] a = refl
 some-stands (x ∷ xs) a = refl
 
--- a batch whose call was accepted passed the test
-pub record Passes (b : Batch) : Type 0 where
-  pub lengths : rightLengths (length (b .file)) (length (b .journal)) ≡ true
-  pub sounds : sound b ≡ true
-
-pub accepted-passes : (b : Batch) (a : Action) → answerTo b (callOf a) .code ≡ 0 → Passes b
-unfolding answerTo
-accepted-passes b a =
-    by-cond P (rightLengths (length (b .file)) (length (b .journal))) _ _
-    (λ e. by-cond P (ready b (callOf a)) _ _ (λ r h. record { lengths = e; sounds = is-sound a r }) (λ r h. absurd (omega (arith, h))))
-    (λ e h. absurd (omega (arith, h)))
-  where
-    P : Answer → Type 0
-    P r = r .code ≡ 0 → Passes b
-
-    is-sound : (x : Action) → ready b (callOf x) ≡ true → sound b ≡ true
-    is-sound (Addition rec) e = e
-    is-sound (Amendment rec) e = e
-    is-sound (Cancellation id) e = e
-
-undoes : (n m : ℕ) → rightLengths n m ≡ true → (xs : List Action) (a : Action) → Stands n m xs → answerTo (made n m xs) (callOf a) .code ≡ 0 → Undoes (made n m xs) (after (made n m xs) (callOf a))
-unfolding rules
-undoes n m good xs a st q =
-    let k = action-taken n m good xs a st q in
-    let ruled : rules n m (xs ++ a ∷ []) Undo ≡ accepted = some-stands xs a in
-    let met : answerTo (made n m (xs ++ a ∷ [])) Undo ≡ accepted = answered-by-rules n m good (xs ++ a ∷ []) (k .stands) Undo ∙ ruled in
-    let back : standingByRule n m (xs ++ a ∷ []) Undo ≡ xs = rw ruled (without-latest xs a) in
-    subst (λ (x : Batch). Undoes (made n m xs) x) (sym (k .is))
-    record { answers = met; back = turned n m good (xs ++ a ∷ []) (k .stands) Undo .is ∙ ap (made n m) back }
-
-pub undo-gives-back : (b : Batch) (a : Action) → answerTo b (callOf a) .code ≡ 0 → Undoes b (after b (callOf a))
-undo-gives-back b a z =
-    let p = accepted-passes b a z in
-    let f = found b (p .sounds) in
-    subst (λ (x : Batch). Undoes x (after x (callOf a))) (sym (f .is))
-    (undoes (length (b .file)) (length (b .journal)) (p .lengths) (f .acts) a (f .stands) (subst (λ (x : Batch). answerTo x (callOf a) .code ≡ 0) (f .is) z))
+module _ (v : Verdict) (fit : Fit v) (b : Batch) (a : Action) (z : answerTo v b (callOf a) .code ≡ 0) where
+  pub undo-gives-back : Undoes v b (after v b (callOf a))
+  unfolding rules
+  undo-gives-back =
+      let p = accepted-by v b (callOf a) (no-opening a) z in
+      let s = p .standing in
+      let n = fileLength b in
+      let m = journalLength b in
+      let t = subst (λ (x : State). inTurn v n m (x .actions) ≡ true) (call-next s a) (turns-next v n m s (callOf a) (p .stands .turns) (p .rule)) in
+      let left : after v b (callOf a) ≡ made n m (with s a) = accepted-leaves v b s (p .stands) (callOf a) (p .rule) ∙ ap (made n m) (call-next s a) in
+      let ruled : rules v n m (with s a) Undo ≡ accepted = some-stands (s .actions) a in
+      let back : standingByRule v n m (with s a) Undo ≡ s = rw ruled (ap state (without-latest (s .actions) a)) in
+      record {
+        answers = ap (λ (x : Batch). answerTo v x Undo) left ∙ answer-here v fit n m (p .stands .lengths) (with s a) t Undo ∙ ruled;
+        back = ap (λ (x : Batch). after v x Undo) left ∙ after-here v fit n m (p .stands .lengths) (with s a) t Undo ∙ ap (made n m) back ∙ sym (p .stands .is);
+      }

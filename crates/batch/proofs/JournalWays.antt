@@ -4,21 +4,19 @@ use Prim.Native.Nat.{ℕ, _+_, _-_, _*_, _≤_, _<_}
 use mathlib.Core.Path.{_≡_, refl, sym, ap, _∙_}
 use mathlib.Core.Bool.{Bool, true, false, cond, not, _&&_}
 use mathlib.Core.List.{List}
-use native.Mathlib.Nat.{add-sub-cancel-left}
 use native.Mathlib.Omega.{arith}
-use borrow.Rule.Slice.PartMut.{mid-len}
 use borrow.Author.Tests.{eq-eqb, ne-eqb, le-leb, lt-leb, leb-true, eqb-true, eqb-false}
 use lib.Dec.{eqb, leb}
-use lib.ListN.{length, getD, take, drop}
+use lib.ListN.{length, getD}
 use Rattle.text.specs.declared.Answer.{Answer}
 use Rattle.text.specs.Answers.{answer, accepted, orElse}
 use Rattle.text.proofs.Booleans.{clash}
 use Rattle.ident.specs.Identifier.{rightId}
 use Rattle.layout.specs.Layout.{fieldOf}
 use Rattle.record.specs.Rules.{recordAnswer}
-use Rattle.batch.specs.Actions.{seek, present, placeOf, isCancelledAt, idOf, liveAnswer, addAnswer, amendAnswer, cancelAnswer, withLine, withCancelled, actionAnswer, actionFile, actionHeld}
-use Rattle.batch.specs.Journal.{bodyLength, entryLength, headStands, startsEntry, kindAt, bodyAt, stepAs}
-use Rattle.batch.specs.Duties.{Acceptable, Stepping, Moved, Stepped}
+use Rattle.batch.specs.Places.{recordNumber, present, placeOf, isCancelledAt, idOf, liveAnswer, addAnswer, amendAnswer, cancelAnswer, withLine, withCancelled, actionAnswer, actionFile, actionHeld}
+use Rattle.batch.specs.Entries.{bodyLength, entryLength, headStands, startsEntry, kindAt}
+use Rattle.batch.specs.Work.{Acceptable}
 
 -- ---- where an action is accepted
 pub or-both : (a b : Answer) → orElse a b .code ≡ 0 → (a .code ≡ 0) × (b .code ≡ 0)
@@ -29,13 +27,13 @@ or-both a b h = go (eqb (a .code) 0) refl h
     go true e h = (eqb-true (a .code) 0 e, h)
     go false e h = absurd (eqb-false (a .code) 0 e h)
 
-live-found : (file id : List ℕ) (held : ℕ) → liveAnswer file held id .code ≡ 0 → 1 ≤ seek file id held
-live-found file id held h = go (eqb (seek file id held) 0) refl h
+live-found : (file id : List ℕ) (held : ℕ) → liveAnswer file held id .code ≡ 0 → 1 ≤ recordNumber file id held
+live-found file id held h = go (eqb (recordNumber file id held) 0) refl h
   where
-    go : (t : Bool) → eqb (seek file id held) 0 ≡ t
-        → cond (not t) (cond (isCancelledAt file (placeOf file id held)) (answer 233 0) accepted) (answer 232 0) .code ≡ 0 → 1 ≤ seek file id held
+    go : (t : Bool) → eqb (recordNumber file id held) 0 ≡ t
+        → cond (not t) (cond (isCancelledAt file (placeOf file id held)) (answer 233 0) accepted) (answer 232 0) .code ≡ 0 → 1 ≤ recordNumber file id held
     go true e h = absurd (omega (arith, h))
-    go false e h = let n = eqb-false (seek file id held) 0 e in omega arith
+    go false e h = let n = eqb-false (recordNumber file id held) 0 e in omega arith
 
 add-fits : (file rec : List ℕ) (held : ℕ) → addAnswer file held rec .code ≡ 0 → held * 401 + 401 ≤ length file
 unfolding addAnswer
@@ -71,7 +69,7 @@ module _ (file body : List ℕ) (held kind : ℕ) (pre : Acceptable file held ki
     place-within : (n - 1 ≤ 999) × ((n - 1) * 401 + 401 ≤ length file)
     place-within = (omega (arith, pre .few), omega (arith, pre .fits))
 
-  module _ (not1 : kind ≡ 1 → ⊥) (k : kind ≡ 3) (id : List ℕ) (ei : id ≡ fieldOf body 1) (n : ℕ) (en : (n ≡ seek file id held) × (n ≤ held)) where
+  module _ (not1 : kind ≡ 1 → ⊥) (k : kind ≡ 3) (id : List ℕ) (ei : id ≡ fieldOf body 1) (n : ℕ) (en : (n ≡ recordNumber file id held) × (n ≤ held)) where
     pub amends-some : 1 ≤ n
     unfolding actionAnswer
     amends-some =
@@ -89,7 +87,7 @@ module _ (file body : List ℕ) (held kind : ℕ) (pre : Acceptable file held ki
     pub amends-part : (n - 1) * 401 + 399 ≤ length file
     amends-part = omega (arith, amends-within .1)
 
-  module _ (not1 : kind ≡ 1 → ⊥) (not3 : kind ≡ 3 → ⊥) (n : ℕ) (en : (n ≡ seek file body held) × (n ≤ held)) where
+  module _ (not1 : kind ≡ 1 → ⊥) (not3 : kind ≡ 3 → ⊥) (n : ℕ) (en : (n ≡ recordNumber file body held) × (n ≤ held)) where
     pub cancels-some : 1 ≤ n
     unfolding actionAnswer
     cancels-some =
@@ -116,11 +114,11 @@ pub acted-add : (file t body : List ℕ) (held kind : ℕ) → kind ≡ 1 → t 
 unfolding actionFile
 acted-add file t body held kind k e = rw (eq-eqb kind 1 k) e
 
-pub acted-amend : (file t body id : List ℕ) (held kind n : ℕ) → (kind ≡ 1 → ⊥) → kind ≡ 3 → id ≡ fieldOf body 1 → (n ≡ seek file id held) × (n ≤ held) → t ≡ withLine file (n - 1) body → t ≡ actionFile file held kind body
+pub acted-amend : (file t body id : List ℕ) (held kind n : ℕ) → (kind ≡ 1 → ⊥) → kind ≡ 3 → id ≡ fieldOf body 1 → (n ≡ recordNumber file id held) × (n ≤ held) → t ≡ withLine file (n - 1) body → t ≡ actionFile file held kind body
 unfolding actionFile
 acted-amend file t body id held kind n not1 k ei en e = rw (ne-eqb kind 1 not1, eq-eqb kind 3 k) (e ∙ rw (en .0, ei))
 
-pub acted-cancel : (file t body : List ℕ) (held kind n : ℕ) → (kind ≡ 1 → ⊥) → (kind ≡ 3 → ⊥) → (n ≡ seek file body held) × (n ≤ held) → t ≡ withCancelled file (n - 1) → t ≡ actionFile file held kind body
+pub acted-cancel : (file t body : List ℕ) (held kind n : ℕ) → (kind ≡ 1 → ⊥) → (kind ≡ 3 → ⊥) → (n ≡ recordNumber file body held) × (n ≤ held) → t ≡ withCancelled file (n - 1) → t ≡ actionFile file held kind body
 unfolding actionFile
 acted-cancel file t body held kind n not1 not3 en e = rw (ne-eqb kind 1 not1, ne-eqb kind 3 not3) (e ∙ rw (en .0))
 
@@ -172,44 +170,3 @@ entry-fits j end at k ek n = rw ek (go (startsEntry j end at 1) (startsEntry j e
     go false true d ea eb ed n = inside 2 eb
     go false false true ea eb ed n = inside 3 ed
     go false false false ea eb ed n = absurd (n refl)
-
--- ---- step
-module _ (file journal : List ℕ) (end held used k : ℕ) (ek : k ≡ kindAt journal end used) where
-  pub no-entry : k ≡ 0 → Stepped file journal end held used (record { good = false; held = held; used = used; last = used }) file
-  unfolding stepAs
-  no-entry z = record { walks = rw (← ek, eq-eqb k 0 z); files = rw (← ek, eq-eqb k 0 z); from = refl; moves = λ g. absurd (clash g refl); stays = λ g. refl }
-
-  module _ (some : k ≡ 0 → ⊥) (n : ℕ) (en : (n ≡ bodyLength k) × (13 ≤ n) × (n ≤ 399)) where
-    -- what the code takes for the body
-    body-is : take (used + 4 + n - (used + 4)) (drop (used + 4) journal) ≡ bodyAt journal used k
-    body-is = rw (add-sub-cancel-left, en .0)
-
-    pub body-within : used ≤ end → end ≤ length journal → used + 4 + n ≤ length journal
-    body-within b w = omega (arith, entry-fits journal end used k ek some, en .0)
-
-    module _ (a : Answer) (ea : a ≡ actionAnswer file held k (take (used + 4 + n - (used + 4)) (drop (used + 4) journal))) where
-      here : actionAnswer file held k (bodyAt journal used k) ≡ a
-      here = sym (ea ∙ ap (actionAnswer file held k) body-is)
-
-      pub entry-refused : (a .code ≡ 0 → ⊥) → Stepped file journal end held used (record { good = false; held = held; used = used; last = used }) file
-      unfolding stepAs
-      entry-refused z = record { walks = rw (← ek, ne-eqb k 0 some, here, ne-eqb (a .code) 0 z); files = rw (← ek, ne-eqb k 0 some, here, ne-eqb (a .code) 0 z); from = refl; moves = λ g. absurd (clash g refl); stays = λ g. refl }
-
-      pub entry-acceptable : a .code ≡ 0 → Stepping file journal end held used → Acceptable file held k (take (used + 4 + n - (used + 4)) (drop (used + 4) journal))
-      entry-acceptable z pre =
-          let room : used + 4 + n ≤ length journal = body-within (pre .before) (pre .within) in
-          let long : length (take (used + 4 + n - (used + 4)) (drop (used + 4) journal)) ≡ n = mid-len (used + 4) (used + 4 + n) journal room ∙ add-sub-cancel-left (used + 4) n in
-          record { few = pre .few; fits = pre .fits; sized = long ∙ en .0; accepts = rw (← ea) z }
-
-      pub entry-done : (t : List ℕ) (h : ℕ) → a .code ≡ 0 → Stepping file journal end held used → t ≡ actionFile file held k (take (used + 4 + n - (used + 4)) (drop (used + 4) journal)) → h ≡ actionHeld held k
-          → Stepped file journal end held used (record { good = true; held = h; used = used + 4 + n; last = used }) t
-      unfolding stepAs
-      entry-done t h z pre et eh =
-          let file-is : t ≡ actionFile file held k (bodyAt journal used k) = et ∙ ap (actionFile file held k) body-is in
-          let next : used + 4 + n ≡ used + entryLength k = omega (arith, en .0) in
-          record { walks = rw (← ek, ne-eqb k 0 some, here, eq-eqb (a .code) 0 z, next, eh); files = rw (← ek, ne-eqb k 0 some, here, eq-eqb (a .code) 0 z) file-is; from = refl; moves = λ g. moved; stays = λ g. absurd (clash refl g) }
-        where
-          moved : Moved file end used (record { good = true; held = h; used = used + 4 + n; last = used })
-          moved =
-              let holds = held-within file (take (used + 4 + n - (used + 4)) (drop (used + 4) journal)) held k (entry-acceptable z pre) (pre .bounded) in
-              record { few = rw eh (holds .0); fits = rw eh (holds .1); forward = omega arith; before = omega (arith, entry-fits journal end used k ek some, en .0, pre .before) }

@@ -10,7 +10,7 @@ use lib.Dec.{eqb}
 use lib.ListN.{length, getD, set, length-append, length-set, List·getD-append}
 use lib.Seq.{getD-at, getD-set-same, getD-set-other, ext-getD}
 use Rattle.text.proofs.Booleans.{clash}
-use Rattle.batch.specs.History.{some}
+use Rattle.batch.specs.Records.{some}
 
 -- ---- one more behind the last
 pub length-last : {A : Type 0} (xs : List A) (x : A) → length (xs ++ x ∷ []) ≡ length xs + 1

@@ -1,4 +1,4 @@
--- The records of a batch as a list: what is known of those that acceptable actions made.
+-- The records of a batch as a list: what is known of those that acceptable actions made, under any verdict that is fit.
 -- Assumes nothing.
 use Prim.Native.Nat.{ℕ, _*_, _/_, _≤_, _<_}
 use mathlib.Core.Path.{_≡_, refl, sym, _∙_}
@@ -14,10 +14,11 @@ use Rattle.text.proofs.Lists.{same-exactly}
 use Rattle.ident.specs.Identifier.{rightId}
 use Rattle.layout.specs.Layout.{fieldOf}
 use Rattle.record.specs.Rules.{recordAnswer}
-use Rattle.record.proofs.Status.{posting-passes, cancelled-rec-long, cancelled-rec-others, cancelled-rec-status, cancelled-rec-passes}
-use Rattle.batch.specs.Actions.{idOf, actionHeld}
+use Rattle.record.proofs.Status.{cancelled-rec-long, cancelled-rec-others, cancelled-rec-status, cancelled-rec-passes}
 use Rattle.record.specs.Readings.{cancelledRec}
-use Rattle.batch.specs.History.{Action, Addition, Amendment, Cancellation, kindOf, isCancelledRec, hasId, replacedBy, cancelledFor, isPresent, isCancelledThere, liveRule, recordsAfter, actionRule}
+use Rattle.batch.specs.Actions.{Action, Addition, Amendment, Cancellation}
+use Rattle.batch.specs.Records.{idOf, isCancelledRec, hasId, replacedBy, cancelledFor, recordsAfter}
+use Rattle.batch.specs.Rules.{Verdict, Fit, isPresent, isCancelledThere, liveRule, actionRule}
 use Rattle.batch.proofs.JournalWays.{or-both}
 use Rattle.batch.proofs.Rows.{length-last, PlaceIn, earlier, last, place-in, length-map, map-nth, none-at}
 
@@ -43,19 +44,19 @@ status-is rec long = rw long
 
 -- ---- an accepted action
 -- an addition: the record passes, its identifier is new, and there is a place
-pub record Adds (recs : List (List ℕ)) (places : ℕ) (rec : List ℕ) : Type 0 where
-  pub passes : recordAnswer true rec .code ≡ 0
+pub record Adds (v : Verdict) (recs : List (List ℕ)) (places : ℕ) (rec : List ℕ) : Type 0 where
+  pub passes : v rec .code ≡ 0
   pub new : isPresent recs (idOf rec) ≡ false
   pub room : length recs < places
 
-pub adds : (recs : List (List ℕ)) (places : ℕ) (rec : List ℕ) → actionRule recs places (Addition rec) .code ≡ 0 → Adds recs places rec
+pub adds : (v : Verdict) (recs : List (List ℕ)) (places : ℕ) (rec : List ℕ) → actionRule v recs places (Addition rec) .code ≡ 0 → Adds v recs places rec
 unfolding actionRule
-adds recs places rec z =
-    let both = or-both (recordAnswer true rec) _ z in
+adds v recs places rec z =
+    let both = or-both (v rec) _ z in
     go (isPresent recs (idOf rec)) refl (ltb (length recs) places) refl (both .0) (both .1)
   where
-    go : (p : Bool) → isPresent recs (idOf rec) ≡ p → (q : Bool) → ltb (length recs) places ≡ q → recordAnswer true rec .code ≡ 0
-        → cond p (answer 2 1) (cond q accepted (answer 230 0)) .code ≡ 0 → Adds recs places rec
+    go : (p : Bool) → isPresent recs (idOf rec) ≡ p → (q : Bool) → ltb (length recs) places ≡ q → v rec .code ≡ 0
+        → cond p (answer 2 1) (cond q accepted (answer 230 0)) .code ≡ 0 → Adds v recs places rec
     go true ep q eq t h = absurd (omega (arith, h))
     go false ep true eq t h = record { passes = t; new = ep; room = ltb-true (length recs) places eq }
     go false ep false eq t h = absurd (omega (arith, h))
@@ -70,28 +71,26 @@ live-accepts recs id z = go (isPresent recs id) (isCancelledThere recs id) z
     go false c z = absurd (omega arith)
 
 -- an amendment: the record passes, and its identifier is present and not cancelled
-pub amends : (recs : List (List ℕ)) (places : ℕ) (rec : List ℕ) → actionRule recs places (Amendment rec) .code ≡ 0
-    → (recordAnswer true rec .code ≡ 0) × (isPresent recs (idOf rec) ≡ true) × (isCancelledThere recs (idOf rec) ≡ false)
+pub amends : (v : Verdict) (recs : List (List ℕ)) (places : ℕ) (rec : List ℕ) → actionRule v recs places (Amendment rec) .code ≡ 0
+    → (v rec .code ≡ 0) × (isPresent recs (idOf rec) ≡ true) × (isCancelledThere recs (idOf rec) ≡ false)
 unfolding actionRule
-amends recs places rec z =
-    let both = or-both (recordAnswer true rec) (liveRule recs (idOf rec)) z in
+amends v recs places rec z =
+    let both = or-both (v rec) (liveRule recs (idOf rec)) z in
     let live = live-accepts recs (idOf rec) (both .1) in
     (both .0, live .0, live .1)
 
-pub cancels : (recs : List (List ℕ)) (places : ℕ) (id : List ℕ) → actionRule recs places (Cancellation id) .code ≡ 0 → (isPresent recs id ≡ true) × (isCancelledThere recs id ≡ false)
+pub cancels : (v : Verdict) (recs : List (List ℕ)) (places : ℕ) (id : List ℕ) → actionRule v recs places (Cancellation id) .code ≡ 0 → (isPresent recs id ≡ true) × (isCancelledThere recs id ≡ false)
 unfolding actionRule
-cancels recs places id z = live-accepts recs id (go (rightId id) z)
+cancels v recs places id z = live-accepts recs id (go (rightId id) z)
   where
     go : (t : Bool) → cond t (liveRule recs id) (answer 1 1) .code ≡ 0 → liveRule recs id .code ≡ 0
     go true h = h
     go false h = absurd (omega (arith, h))
 
 -- ---- what it leaves
-pub kept-posting : (rec : List ℕ) → recordAnswer true rec .code ≡ 0 → Kept rec
+pub kept-posting : (v : Verdict) → Fit v → (rec : List ℕ) → v rec .code ≡ 0 → Kept rec
 unfolding sameBytes
-kept-posting rec z =
-    let p = posting-passes rec z in
-    record { long = p .0; status = p .1 ∙ rw (p .1); passes = p .2 }
+kept-posting v fit rec z = record { long = fit .long rec z; status = fit .blank rec z ∙ rw (fit .blank rec z); passes = fit .passes rec z }
 
 kept-cancelled : (rec : List ℕ) → Kept rec → Kept (cancelledRec rec)
 unfolding sameBytes
@@ -159,19 +158,15 @@ module _ (id : List ℕ) where
       go true = cancelled-rec-others rec 1 (λ e. omega (arith, e))
       go false = refl
 
-pub sheet-step : (recs : List (List ℕ)) (places : ℕ) (a : Action) → Sheet recs → actionRule recs places a .code ≡ 0 → Sheet (recordsAfter recs a)
-sheet-step recs places (Addition rec) s z = let p = adds recs places rec z in sheet-last recs rec s (kept-posting rec (p .passes)) (p .new)
-sheet-step recs places (Amendment rec) s z =
-    let k = kept-posting rec (amends recs places rec z .0) in
-    sheet-map recs (replacedBy rec) s (replaced-kept rec k) (replaced-id rec k)
-sheet-step recs places (Cancellation id) s z = sheet-map recs (cancelledFor id) s (cancelled-kept id) (cancelled-id id)
+module _ (v : Verdict) (fit : Fit v) where
+  pub sheet-step : (recs : List (List ℕ)) (places : ℕ) (a : Action) → Sheet recs → actionRule v recs places a .code ≡ 0 → Sheet (recordsAfter recs a)
+  sheet-step recs places (Addition rec) s z = let p = adds v recs places rec z in sheet-last recs rec s (kept-posting v fit rec (p .passes)) (p .new)
+  sheet-step recs places (Amendment rec) s z =
+      let k = kept-posting v fit rec (amends v recs places rec z .0) in
+      sheet-map recs (replacedBy rec) s (replaced-kept rec k) (replaced-id rec k)
+  sheet-step recs places (Cancellation id) s z = sheet-map recs (cancelledFor id) s (cancelled-kept id) (cancelled-id id)
 
-pub held-step : (recs : List (List ℕ)) (a : Action) → actionHeld (length recs) (kindOf a) ≡ length (recordsAfter recs a)
-held-step recs (Addition rec) = sym (length-last recs rec)
-held-step recs (Amendment rec) = sym (length-map (replacedBy rec) recs)
-held-step recs (Cancellation id) = sym (length-map (cancelledFor id) recs)
-
-pub fits-step : (n : ℕ) (recs : List (List ℕ)) (a : Action) → length recs * 401 ≤ n → actionRule recs (n / 401) a .code ≡ 0 → length (recordsAfter recs a) * 401 ≤ n
-fits-step n recs (Addition rec) f z = omega (arith, adds recs (n / 401) rec z .room, length-last recs rec)
-fits-step n recs (Amendment rec) f z = omega (arith, length-map (replacedBy rec) recs)
-fits-step n recs (Cancellation id) f z = omega (arith, length-map (cancelledFor id) recs)
+pub fits-step : (v : Verdict) (n : ℕ) (recs : List (List ℕ)) (a : Action) → length recs * 401 ≤ n → actionRule v recs (n / 401) a .code ≡ 0 → length (recordsAfter recs a) * 401 ≤ n
+fits-step v n recs (Addition rec) f z = omega (arith, adds v recs (n / 401) rec z .room, length-last recs rec)
+fits-step v n recs (Amendment rec) f z = omega (arith, length-map (replacedBy rec) recs)
+fits-step v n recs (Cancellation id) f z = omega (arith, length-map (cancelledFor id) recs)

@@ -9,8 +9,7 @@ use lib.ListN.{length, drop, length-append, length-replicate, replicate-append-r
 use lib.Seq.{take-append-seam, drop-append-add}
 use Rattle.text.specs.Lists.{overlay}
 use Rattle.posting.proofs.PrintedLines.{overlay-middle}
-use Rattle.batch.specs.Journal.{zeros}
-use Rattle.batch.specs.History.{zeroFilled}
+use Rattle.batch.specs.Batch.{zeros, zeroFilled}
 
 drop-zeros : (i k : ℕ) → drop i (zeros k) ≡ zeros (k - i)
 drop-zeros zero k = ap zeros (sym (sub-zero k))

@@ -1,85 +1,117 @@
--- "The open batch": what an addition, an amendment and a cancellation meet, and what they make of the file and the totals.
--- A file buffer and how many records it holds stand for the records; places are counted from 0.
+-- Actions, the table of their kinds, and the entries that they print into the journal.
 -- Assumes nothing.
-use Prim.Native.Nat.{ℕ, zero, suc, _+_, _-_, _*_, _≤_}
-use mathlib.Core.Bool.{Bool, true, cond, not}
-use mathlib.Core.Path.{_≡_}
-use mathlib.Core.List.{List, [], _∷_, _++_}
-use lib.ListN.{length, getD, set}
+use Prim.Native.Nat.{ℕ, zero, suc, _+_, _/_, _%_}
+use mathlib.Core.Bool.{Bool, true, cond, _&&_}
+use mathlib.Core.Path.{_≡_, refl}
+use mathlib.Core.Logic.{_↔_}
+use mathlib.Core.List.{List, [], _∷_, _++_, map}
+use mathlib.Core.Option.{Option, none, some, Option·elim}
+use lib.ListN.{length, take, drop}
 use lib.Dec.{eqb, leb}
-use Rattle.text.specs.declared.Answer.{Answer}
-use Rattle.text.specs.Answers.{answer, accepted, orElse}
-use Rattle.text.specs.Lists.{sameBytes, overlay}
-use Rattle.ident.specs.Identifier.{rightId}
-use Rattle.layout.specs.Layout.{fieldOf}
-use Rattle.record.specs.Rules.{recordAnswer}
-use Rattle.posting.specs.declared.Totals.{Totals}
-use Rattle.posting.specs.File.{lineOf, idAt, totals}
+use Rattle.text.specs.Lists.{sameBytes, joined}
 
--- ---- the consignment with an identifier
--- one more than the place of the last of n records with this identifier; 0 where none has it
-unfoldable pub seek : List ℕ → List ℕ → ℕ → ℕ
-seek file id zero = 0
-seek file id (suc n) = cond (sameBytes (idAt file n) id) (suc n) (seek file id n)
+-- ---- actions, each with the record or the identifier that it carries
+pub data Action : Type 0 where
+  Addition : List ℕ → Action
+  Amendment : List ℕ → Action
+  Cancellation : List ℕ → Action
 
-abbrev pub present : List ℕ → List ℕ → ℕ → Bool
-present file id held = not (eqb (seek file id held) 0)
+-- ---- the table of kinds: its number, how many bytes it carries, and which action
+pub record Kind : Type 0 where
+  pub number : ℕ
+  pub carries : ℕ
+  pub action : List ℕ → Action
 
-abbrev pub placeOf : List ℕ → List ℕ → ℕ → ℕ
-placeOf file id held = seek file id held - 1
+abbrev pub kind : ℕ → ℕ → (List ℕ → Action) → Kind
+kind number carries action = record { number = number; carries = carries; action = action }
 
--- the record at a place is cancelled: the first byte of its status, field 19, is "0"
--- In a batch that passed the test the status is then "0 " (`Views: cancelled-view`).
-abbrev pub isCancelledAt : List ℕ → ℕ → Bool
-isCancelledAt file k = eqb (getD file (k * 401 + 340) 0) 48
+abbrev pub addition : Kind
+addition = kind 1 399 Addition
 
-abbrev pub idOf : List ℕ → List ℕ
-idOf rec = fieldOf rec 1
+abbrev pub cancellation : Kind
+cancellation = kind 2 13 Cancellation
 
--- ---- what an action meets, in the order of the table of refusals; 231 is not judged here
--- the identifier is present and not cancelled
-abbrev pub liveAnswer : List ℕ → ℕ → List ℕ → Answer
-liveAnswer file held id =
-    cond (present file id held) (cond (isCancelledAt file (placeOf file id held)) (answer 233 0) accepted) (answer 232 0)
+abbrev pub amendment : Kind
+amendment = kind 3 399 Amendment
 
-unfoldable pub addAnswer : List ℕ → ℕ → List ℕ → Answer
-addAnswer file held rec =
-    orElse (recordAnswer true rec)
-    (cond (present file (idOf rec) held) (answer 2 1) (cond (leb (held * 401 + 401) (length file)) accepted (answer 230 0)))
+abbrev pub kinds : List Kind
+kinds = addition ∷ cancellation ∷ amendment ∷ []
 
-unfoldable pub amendAnswer : List ℕ → ℕ → List ℕ → Answer
-amendAnswer file held rec = orElse (recordAnswer true rec) (liveAnswer file held (idOf rec))
+-- the kind of an action, and what it carries
+abbrev pub kindOf : Action → Kind
+kindOf (Addition rec) = addition
+kindOf (Amendment rec) = amendment
+kindOf (Cancellation id) = cancellation
 
-unfoldable pub cancelAnswer : List ℕ → ℕ → List ℕ → Answer
-cancelAnswer file held id = cond (rightId id) (liveAnswer file held id) (answer 1 1)
+abbrev pub numberOf : Action → ℕ
+numberOf a = kindOf a .number
 
--- ---- what an action makes of the file
-abbrev pub withLine : List ℕ → ℕ → List ℕ → List ℕ
-withLine file k rec = overlay file (k * 401) (lineOf rec)
+abbrev pub bodyOf : Action → List ℕ
+bodyOf (Addition rec) = rec
+bodyOf (Amendment rec) = rec
+bodyOf (Cancellation id) = id
 
--- status "0 "
-abbrev pub withCancelled : List ℕ → ℕ → List ℕ
-withCancelled file k = set (set file (k * 401 + 340) 48) (k * 401 + 341) 32
+-- it carries as many bytes as its kind says
+abbrev pub sized : Action → Bool
+sized a = eqb (length (bodyOf a)) (kindOf a .carries)
 
--- ---- kinds of entries: 1 addition, 2 cancellation, 3 amendment; no other is ever asked about
-unfoldable pub actionAnswer : List ℕ → ℕ → ℕ → List ℕ → Answer
-actionAnswer file held kind body =
-    cond (eqb kind 1) (addAnswer file held body) (cond (eqb kind 3) (amendAnswer file held body) (cancelAnswer file held body))
+unfoldable pub allSized : List Action → Bool
+allSized [] = true
+allSized (a ∷ xs) = sized a && allSized xs
 
-unfoldable pub actionFile : List ℕ → ℕ → ℕ → List ℕ → List ℕ
-actionFile file held kind body =
-    cond (eqb kind 1) (withLine file held body)
-    (cond (eqb kind 3) (withLine file (placeOf file (idOf body) held) body) (withCancelled file (placeOf file body held)))
+-- ---- an entry: the length of the whole entry, two bytes little-endian, then a two-byte kind, little-endian, then what it carries
+abbrev pub littleEndian : ℕ → List ℕ
+littleEndian n = n % 256 ∷ n / 256 ∷ []
 
-abbrev pub actionHeld : ℕ → ℕ → ℕ
-actionHeld held kind = cond (eqb kind 1) (held + 1) held
+abbrev pub entryLength : Kind → ℕ
+entryLength k = k .carries + 4
 
--- ---- and of the totals
-abbrev pub oneLiveMore : Totals → ℕ → ℕ → Totals
-oneLiveMore t d p = totals (t .live + 1) (t .cancelled) (t .cash .0 + d) (t .price .0 + p)
+abbrev pub headOf : Kind → List ℕ
+headOf k = littleEndian (entryLength k) ++ littleEndian (k .number)
 
-abbrev pub oneCancelled : Totals → ℕ → ℕ → Totals
-oneCancelled t d p = totals (t .live - 1) (t .cancelled + 1) (t .cash .0 - d) (t .price .0 - p)
+abbrev pub entryOf : Action → List ℕ
+entryOf a = headOf (kindOf a) ++ bodyOf a
 
-abbrev pub amountsReplaced : Totals → ℕ → ℕ → ℕ → ℕ → Totals
-amountsReplaced t d p d′ p′ = totals (t .live) (t .cancelled) (t .cash .0 - d + d′) (t .price .0 - p + p′)
+abbrev pub entriesOf : List Action → List ℕ
+entriesOf xs = joined (map entryOf xs)
+
+-- example 15: cancelling BO5412345671F adds 11 00 02 00 and its 13 bytes
+pub example-15 : entryOf (Cancellation (66 ∷ 79 ∷ 53 ∷ 52 ∷ 49 ∷ 50 ∷ 51 ∷ 52 ∷ 53 ∷ 54 ∷ 55 ∷ 49 ∷ 70 ∷ []))
+    ≡ 17 ∷ 0 ∷ 2 ∷ 0 ∷ 66 ∷ 79 ∷ 53 ∷ 52 ∷ 49 ∷ 50 ∷ 51 ∷ 52 ∷ 53 ∷ 54 ∷ 55 ∷ 49 ∷ 70 ∷ []
+example-15 = refl
+
+-- ---- the actions that bytes print
+-- the first entry: its action, and the bytes behind it
+pub record Entry : Type 0 where
+  pub action : Action
+  pub behind : List ℕ
+
+-- an entry of this kind stands at the front
+abbrev pub startsAs : Kind → List ℕ → Bool
+startsAs k s = sameBytes (take 4 s) (headOf k) && leb (entryLength k) (length s)
+
+abbrev pub entryAs : Kind → List ℕ → Entry
+entryAs k s = record { action = k .action (take (k .carries) (drop 4 s)); behind = drop (entryLength k) s }
+
+-- by the row of a table that fits
+unfoldable pub firstEntry : List Kind → List ℕ → Option Entry
+firstEntry [] s = none
+firstEntry (k ∷ ks) s = cond (startsAs k s) (some (entryAs k s)) (firstEntry ks s)
+
+abbrev pub behindFirst : Action → Option (List Action) → Option (List Action)
+behindFirst a none = none
+behindFirst a (some xs) = some (a ∷ xs)
+
+-- at most n entries up to the last byte; none if some bytes are no entry
+unfoldable pub entriesIn : ℕ → List ℕ → Option (List Action)
+entriesIn zero s = cond (eqb (length s) 0) (some []) none
+entriesIn (suc n) s =
+    cond (eqb (length s) 0) (some []) (Option·elim (firstEntry kinds s) none (λ e. behindFirst (e .action) (entriesIn n (e .behind))))
+
+-- each entry has a byte at least, so there are not more than bytes
+abbrev pub actionsIn : List ℕ → Option (List Action)
+actionsIn s = entriesIn (length s) s
+
+-- what was printed is read back, and only what prints so is read (`proofs/Reading: read-exactly`, of all bytes and lists)
+abbrev pub ReadExactly : List ℕ → List Action → Type 0
+ReadExactly s xs = (actionsIn s ≡ some xs) ↔ ((allSized xs ≡ true) × (entriesOf xs ≡ s))

@@ -1,22 +1,26 @@
--- The calls of the open batch: one `answerTo` and one `after` for all of them.
+-- The calls of the open batch, in the paper's words: the list of actions that stands in a batch, one `answerTo` and one `after` for all calls.
+-- How a call finds the list out is nobody's business but its proof's.
 -- Assumes nothing.
-use Prim.Native.Nat.{ℕ, _+_, _-_, _*_, _%_}
-use mathlib.Core.Bool.{Bool, true, false, cond, _&&_}
+use Prim.Native.Nat.{ℕ, _-_, _%_}
+use mathlib.Core.Bool.{Bool, true, cond, _&&_}
 use mathlib.Core.Path.{_≡_}
 use mathlib.Core.List.{List, [], _∷_, _++_}
-use lib.ListN.{length, getD, take, drop}
-use lib.Dec.{eqb, leb, ltb}
+use mathlib.Core.Option.{Option, none, some}
+use lib.ListN.{length, take, replicate}
+use lib.Dec.{eqb, leb}
 use Rattle.text.specs.declared.Answer.{Answer}
-use Rattle.text.specs.Answers.{answer, accepted, orElse, wrongLength}
-use Rattle.text.specs.Bytes.{every}
-use Rattle.text.specs.Lists.{sameBytes, overlay}
+use Rattle.text.specs.Answers.{answer, accepted}
+use Rattle.text.specs.Lists.{sameBytes}
 use Rattle.posting.specs.declared.Totals.{Totals}
-use Rattle.posting.specs.File.{recordAt, noTotals, totalsOver}
-use Rattle.posting.specs.Sums.{cashIn, priceIn}
+use Rattle.posting.specs.File.{noTotals}
+use Rattle.posting.specs.Records.{linesOf}
+use Rattle.posting.specs.Sums.{totalsOf}
 use Rattle.batch.specs.declared.Counts.{Counts}
-use Rattle.batch.specs.Actions.{placeOf, idOf, actionAnswer, actionFile, actionHeld, oneLiveMore, oneCancelled, amountsReplaced}
-use Rattle.batch.specs.Journal.{bodyLength, entryLength, entry, zeros, rebuilt}
+use Rattle.batch.specs.Actions.{Action, Addition, Amendment, Cancellation, entriesOf, actionsIn}
+use Rattle.batch.specs.Records.{recordsOf}
+use Rattle.batch.specs.Rules.{Verdict, posted, ruleBehind, inTurn}
 
+-- ---- a batch: two lent buffers and the counts
 pub record Batch : Type 0 where
   pub file : List ℕ
   pub journal : List ℕ
@@ -38,88 +42,109 @@ pub data Call : Type 0 where
   Cancel : List ℕ → Call
   Undo : Call
 
--- ---- 235: a file buffer whose length is a multiple of 401 from 401 to 400,599, and a journal of 403 to 1,048,576 bytes
+-- 235: a file buffer whose length is a multiple of 401 from 401 to 400,599, and a journal of 403 to 1,048,576 bytes
 unfoldable pub rightLengths : ℕ → ℕ → Bool
 rightLengths n m = eqb (n % 401) 0 && leb 401 n && leb n 400599 && leb 403 m && leb m 1048576
 
--- ---- 237: file, journal and counts are what the journal's entries make from an opening
-abbrev pub isZero : ℕ → Bool
-isZero b = eqb b 0
+-- ---- what a journal stands for: the actions, the earliest first
+pub record State : Type 0 where
+  pub actions : List Action
 
+abbrev pub state : List Action → State
+state xs = record { actions = xs }
+
+-- ---- what it makes of two buffers of n and m bytes: its records and its entries, one behind the other, zeros behind them, and the counts
+abbrev pub zeros : ℕ → List ℕ
+zeros n = replicate n 0
+
+abbrev pub zeroFilled : ℕ → List ℕ → List ℕ
+zeroFilled n s = s ++ zeros (n - length s)
+
+unfoldable pub made : ℕ → ℕ → State → Batch
+made n m s =
+    batchOf (zeroFilled n (linesOf (recordsOf (s .actions))))
+    (zeroFilled m (entriesOf (s .actions)))
+    (countsOf (totalsOf (recordsOf (s .actions))) (length (recordsOf (s .actions))) (length (entriesOf (s .actions))))
+
+-- ---- the answer that the rules give where these actions stand
+-- undo: 234 where none stands
+abbrev pub undoRule : List Action → Answer
+undoRule [] = answer 234 0
+undoRule (a ∷ xs) = accepted
+
+unfoldable pub rules : Verdict → ℕ → ℕ → State → Call → Answer
+rules v n m s Open = accepted
+rules v n m s (Add rec) = ruleBehind v n m (s .actions) (Addition rec)
+rules v n m s (Amend rec) = ruleBehind v n m (s .actions) (Amendment rec)
+rules v n m s (Cancel id) = ruleBehind v n m (s .actions) (Cancellation id)
+rules v n m s Undo = undoRule (s .actions)
+
+-- ---- what stands after an accepted call
+abbrev pub withoutLatest : List Action → List Action
+withoutLatest [] = []
+withoutLatest (a ∷ []) = []
+withoutLatest (a ∷ b ∷ xs) = a ∷ withoutLatest (b ∷ xs)
+
+abbrev pub with : State → Action → State
+with s a = state (s .actions ++ a ∷ [])
+
+abbrev pub next : State → Call → State
+next s Open = state []
+next s (Add rec) = with s (Addition rec)
+next s (Amend rec) = with s (Amendment rec)
+next s (Cancel id) = with s (Cancellation id)
+next s Undo = state (withoutLatest (s .actions))
+
+-- ---- what stands in a batch: the actions that the used journal bytes print, if the lengths are right, each is acceptable in its turn, and file, journal and
+-- counts are what they make; else none
 abbrev pub sameTotals : Totals → Totals → Bool
 sameTotals s t = eqb (s .live) (t .live) && eqb (s .cancelled) (t .cancelled) && eqb (s .cash .0) (t .cash .0) && eqb (s .price .0) (t .price .0)
 
-unfoldable pub sound : Batch → Bool
-sound b =
-    leb (b .counts .used) (length (b .journal))
-    && (rebuilt (length (b .file)) (b .journal) (b .counts .used) .walk .good
-    && (eqb (rebuilt (length (b .file)) (b .journal) (b .counts .used) .walk .held) (b .counts .held)
-    && (sameBytes (rebuilt (length (b .file)) (b .journal) (b .counts .used) .file) (b .file)
-    && (every isZero (drop (b .counts .used) (b .journal))
-    && sameTotals (totalsOver (b .file) (b .counts .held)) (b .counts .totals)))))
+abbrev pub sameCounts : Counts → Counts → Bool
+sameCounts c d = sameTotals (c .totals) (d .totals) && eqb (c .held) (d .held) && eqb (c .used) (d .used)
 
--- ---- the answers, in the order of the table
--- an action of this kind: 236, then its own refusals, then 231
-unfoldable pub entryAnswer : Batch → ℕ → List ℕ → Answer
-entryAnswer b kind body =
-    cond (eqb (length body) (bodyLength kind))
-    (orElse (actionAnswer (b .file) (b .counts .held) kind body)
-    (cond (leb (b .counts .used + entryLength kind) (length (b .journal))) accepted (answer 231 0)))
-    wrongLength
+abbrev pub sameBatch : Batch → Batch → Bool
+sameBatch b e = sameBytes (b .file) (e .file) && sameBytes (b .journal) (e .journal) && sameCounts (b .counts) (e .counts)
 
-abbrev pub workAnswer : Batch → Call → Answer
-workAnswer b Open = accepted
-workAnswer b (Add rec) = entryAnswer b 1 rec
-workAnswer b (Amend rec) = entryAnswer b 3 rec
-workAnswer b (Cancel id) = entryAnswer b 2 id
-workAnswer b Undo = cond (eqb (b .counts .used) 0) (answer 234 0) accepted
+abbrev pub fileLength : Batch → ℕ
+fileLength b = length (b .file)
 
--- opening asks for the lengths alone
-abbrev pub ready : Batch → Call → Bool
-ready b Open = true
-ready b (Add rec) = sound b
-ready b (Amend rec) = sound b
-ready b (Cancel id) = sound b
-ready b Undo = sound b
+abbrev pub journalLength : Batch → ℕ
+journalLength b = length (b .journal)
 
-unfoldable pub answerTo : Batch → Call → Answer
-answerTo b call =
-    cond (rightLengths (length (b .file)) (length (b .journal))) (cond (ready b call) (workAnswer b call) (answer 237 0)) (answer 235 0)
+unfoldable pub standing : Verdict → Batch → Option (List Action) → Option State
+standing v b none = none
+standing v b (some xs) =
+    cond (rightLengths (fileLength b) (journalLength b) && inTurn v (fileLength b) (journalLength b) xs && sameBatch b (made (fileLength b) (journalLength b) (state xs)))
+    (some (state xs)) none
 
--- ---- what an accepted call leaves
--- the totals by what stands at the place that the action touches
-abbrev pub actionTotals : Batch → ℕ → List ℕ → Totals
-actionTotals b kind body =
-    cond (eqb kind 1) (oneLiveMore (b .counts .totals) (cashIn body) (priceIn body))
-    (cond (eqb kind 3)
-    (amountsReplaced (b .counts .totals) (cashIn (recordAt (b .file) (placeOf (b .file) (idOf body) (b .counts .held)))) (priceIn (recordAt (b .file) (placeOf (b .file) (idOf body) (b .counts .held)))) (cashIn body) (priceIn body))
-    (oneCancelled (b .counts .totals) (cashIn (recordAt (b .file) (placeOf (b .file) body (b .counts .held)))) (priceIn (recordAt (b .file) (placeOf (b .file) body (b .counts .held))))))
+abbrev pub standsIn : Verdict → Batch → Option State
+standsIn v b = standing v b (actionsIn (take (b .counts .used) (b .journal)))
 
-unfoldable pub entered : Batch → ℕ → List ℕ → Batch
-entered b kind body =
-    batchOf (actionFile (b .file) (b .counts .held) kind body)
-    (overlay (b .journal) (b .counts .used) (entry kind body))
-    (countsOf (actionTotals b kind body) (actionHeld (b .counts .held) kind) (b .counts .used + entryLength kind))
+-- that is, exactly these (`proofs/Standing: stands-exactly`)
+pub record Stands (v : Verdict) (b : Batch) (s : State) : Type 0 where
+  pub lengths : rightLengths (fileLength b) (journalLength b) ≡ true
+  pub turns : inTurn v (fileLength b) (journalLength b) (s .actions) ≡ true
+  pub is : b ≡ made (fileLength b) (journalLength b) s
 
--- where the latest entry starts, and what the entries before it make
-abbrev pub latest : Batch → ℕ
-latest b = rebuilt (length (b .file)) (b .journal) (b .counts .used) .walk .last
+-- ---- the answer: 235; where nothing stands 237, but an opening asks for the lengths alone; else by the rules
+abbrev pub ruled : Verdict → ℕ → ℕ → Option State → Call → Answer
+ruled v n m (some s) call = rules v n m s call
+ruled v n m none Open = accepted
+ruled v n m none (Add rec) = answer 237 0
+ruled v n m none (Amend rec) = answer 237 0
+ruled v n m none (Cancel id) = answer 237 0
+ruled v n m none Undo = answer 237 0
 
-unfoldable pub undone : Batch → Batch
-undone b =
-    batchOf (rebuilt (length (b .file)) (b .journal) (latest b) .file)
-    (overlay (b .journal) (latest b) (zeros (b .counts .used - latest b)))
-    (countsOf (totalsOver (rebuilt (length (b .file)) (b .journal) (latest b) .file) (rebuilt (length (b .file)) (b .journal) (latest b) .walk .held)) (rebuilt (length (b .file)) (b .journal) (latest b) .walk .held) (latest b))
+unfoldable pub answerTo : Verdict → Batch → Call → Answer
+answerTo v b call =
+    cond (rightLengths (fileLength b) (journalLength b)) (ruled v (fileLength b) (journalLength b) (standsIn v b) call) (answer 235 0)
 
-abbrev pub opened : Batch → Batch
-opened b = batchOf (zeros (length (b .file))) (zeros (length (b .journal))) noCounts
-
-abbrev pub done : Batch → Call → Batch
-done b Open = opened b
-done b (Add rec) = entered b 1 rec
-done b (Amend rec) = entered b 3 rec
-done b (Cancel id) = entered b 2 id
-done b Undo = undone b
+-- ---- the batch afterwards
+-- where nothing stands, only an opening is accepted
+abbrev pub nextOf : Option State → Call → State
+nextOf (some s) call = next s call
+nextOf none call = state []
 
 -- refusals change nothing and give back the counts they got; a refused opening gives zero counts
 abbrev pub unchanged : Batch → Call → Batch
@@ -129,12 +154,17 @@ unchanged b (Amend rec) = b
 unchanged b (Cancel id) = b
 unchanged b Undo = b
 
-unfoldable pub after : Batch → Call → Batch
-after b call = cond (eqb (answerTo b call .code) 0) (done b call) (unchanged b call)
+unfoldable pub after : Verdict → Batch → Call → Batch
+after v b call =
+    cond (eqb (answerTo v b call .code) 0) (made (fileLength b) (journalLength b) (nextOf (standsIn v b) call)) (unchanged b call)
 
 -- ---- what every call promises: answer, counts, file and journal at exit
-pub record Called (b : Batch) (call : Call) (r : Answer) (counts : Counts) (file journal : List ℕ) : Type 0 where
-  pub answers : r ≡ answerTo b call
-  pub counted : counts ≡ after b call .counts
-  pub filed : file ≡ after b call .file
-  pub journaled : journal ≡ after b call .journal
+pub record CalledBy (v : Verdict) (b : Batch) (call : Call) (r : Answer) (counts : Counts) (file journal : List ℕ) : Type 0 where
+  pub answers : r ≡ answerTo v b call
+  pub counted : counts ≡ after v b call .counts
+  pub filed : file ≡ after v b call .file
+  pub journaled : journal ≡ after v b call .journal
+
+-- under the record's own verdict
+abbrev pub Called : Batch → Call → Answer → Counts → List ℕ → List ℕ → Type 0
+Called = CalledBy posted

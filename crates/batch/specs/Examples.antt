@@ -3,6 +3,7 @@
 use Prim.Native.Nat.{ℕ}
 use mathlib.Core.Path.{_≡_, refl}
 use mathlib.Core.List.{List, [], _∷_, map}
+use mathlib.Core.Option.{some, Option·elim}
 use Rattle.text.specs.declared.Answer.{Answer}
 use Rattle.text.specs.Answers.{answer, accepted}
 use Rattle.text.specs.Bytes.{every, run}
@@ -23,9 +24,12 @@ use Rattle.record.specs.Rules.{askedOf, givenOf, travelOf, table, recordAnswer}
 use Rattle.record.specs.Examples.{laidOut, recordOf, parcel}
 use Rattle.posting.specs.File.{totals}
 use Rattle.posting.specs.Sums.{kept}
-use Rattle.batch.specs.Batch.{countsOf, Call, Add, Amend, Cancel, Undo}
 use Rattle.record.specs.Readings.{cancelledRec}
-use Rattle.batch.specs.History.{recordsOf, some, actionRule, entryRule, made, rules, standingByRules, answersByRules}
+use Rattle.batch.specs.Actions.{Action, Addition, Amendment, Cancellation, entriesOf, firstEntry, entriesIn, actionsIn}
+use Rattle.batch.specs.Records.{recordsOf, some as anyRecord}
+use Rattle.batch.specs.Rules.{posted, actionRule, entryRule}
+use Rattle.batch.specs.Batch.{countsOf, Call, Add, Amend, Cancel, Undo, state, made, rules}
+use Rattle.batch.specs.History.{standingByRules, answersByRules}
 
 -- ---- parcels that the table accepts
 unfoldable pub first : List ℕ
@@ -69,12 +73,19 @@ claimedCalls = map (λ (c : Call × Answer). c .0) claims
 abbrev pub claimedAnswers : List Answer
 claimedAnswers = map (λ (c : Call × Answer). c .1) claims
 
+-- what stands in the end: the amendment of the first, and of the cancellations the second
+unfoldable pub left : List Action
+left = Addition first ∷ Addition second ∷ Amendment renamed ∷ Cancellation (bytes "BO0100010005F") ∷ []
+
 pub record Shown : Type 0 where
-  pub answers : answersByRules 802 1600 claimedCalls ≡ claimedAnswers
-  pub records : recordsOf (standingByRules 802 1600 claimedCalls) ≡ renamed ∷ cancelledRec second ∷ []
+  pub answers : answersByRules posted 802 1600 claimedCalls ≡ claimedAnswers
+  pub stands : standingByRules posted 802 1600 claimedCalls ≡ state left
+  pub records : recordsOf left ≡ renamed ∷ cancelledRec second ∷ []
   -- one live, one cancelled, the amounts of the live one; two records, and three entries of 403 bytes and one of 17
-  pub counts : made 802 1600 (standingByRules 802 1600 claimedCalls) .counts ≡ countsOf (totals 1 1 1000 2000) 2 1226
+  pub counts : made 802 1600 (state left) .counts ≡ countsOf (totals 1 1 1000 2000) 2 1226
+  -- its entries are read back
+  pub read : actionsIn (entriesOf left) ≡ some left
 
 pub shown : Shown
-unfolding bytes inField laidOut recordOf parcel first renamed second third claims every run numberAfter sameBytes shapeOf weighted endsRight rightId partsOf fieldOf framed daysIn readDate readTime filled contains isHost isMail isMoney codesFrom hasCode withCode added readServices askedOf givenOf travelOf table recordAnswer kept orElse some actionRule entryRule made rules
-shown = record { answers = refl; records = refl; counts = refl }
+unfolding bytes inField laidOut recordOf parcel first renamed second third claims left every run numberAfter sameBytes shapeOf weighted endsRight rightId partsOf fieldOf framed daysIn readDate readTime filled contains isHost isMail isMoney codesFrom hasCode withCode added readServices askedOf givenOf travelOf table recordAnswer kept orElse anyRecord actionRule entryRule made rules firstEntry entriesIn Option·elim
+shown = record { answers = refl; stands = refl; records = refl; counts = refl; read = refl }

@@ -1,182 +1,52 @@
--- The history of a batch, in the paper's words: actions, the records that they make, the rules over those records, and what stands after calls.
--- No buffer, count or replay is in the rules: a batch is its list of standing actions.
+-- What is shown of batches and calls, in the paper's words: what stands after calls by the rules, when each code is given, an undo, the place that a call
+-- writes, and the file. The verdict on a record is a parameter here too.
 -- Assumes nothing.
 use Prim.Native.Nat.{ℕ, _+_, _-_, _*_, _/_, _%_, _≤_, _<_}
-use mathlib.Core.Bool.{Bool, true, false, cond, _&&_, _||_}
+use mathlib.Core.Bool.{Bool, true, false, cond}
 use mathlib.Core.Path.{_≡_}
-use mathlib.Core.List.{List, [], _∷_, _++_, map}
-use lib.ListN.{length, take, drop, set}
-use lib.Dec.{eqb, ltb, leb}
+use mathlib.Core.List.{List, [], _∷_, map}
+use lib.ListN.{length, take, drop}
+use lib.Dec.{eqb}
 use Rattle.text.specs.declared.Answer.{Answer}
-use Rattle.text.specs.Answers.{answer, accepted, orElse, wrongLength}
-use Rattle.text.specs.Lists.{sameBytes}
+use Rattle.text.specs.Answers.{answer, accepted}
 use Rattle.ident.specs.Identifier.{rightId}
-use Rattle.text.specs.Lists.{joined}
-use Rattle.layout.specs.Layout.{fieldOf}
-use Rattle.record.specs.Readings.{cancelledRec}
-use Rattle.record.specs.Rules.{recordAnswer}
 use Rattle.posting.specs.File.{lineOf, idAt, fileAnswer, passed}
 use Rattle.posting.specs.Records.{linesOf}
-use Rattle.posting.specs.Sums.{totalsOf}
-use Rattle.batch.specs.Actions.{idOf}
-use Rattle.batch.specs.Journal.{bodyLength, entryLength, entry, zeros}
-use Rattle.batch.specs.Batch.{Batch, batchOf, countsOf, Call, Open, Add, Amend, Cancel, Undo, answerTo, after}
+use Rattle.batch.specs.Actions.{Action, Addition, Amendment, Cancellation, kindOf, bodyOf, entryLength, entriesOf}
+use Rattle.batch.specs.Records.{idOf, recordsOf}
+use Rattle.batch.specs.Rules.{Verdict, isPresent, isCancelledThere, actionRule}
+use Rattle.batch.specs.Batch.{Batch, Call, Open, Add, Amend, Cancel, Undo, State, state, zeroFilled, rules, next, fileLength, journalLength, Stands, answerTo, after}
 
--- ---- actions, each with the record or the identifier that it carries
-pub data Action : Type 0 where
-  Addition : List ℕ → Action
-  Amendment : List ℕ → Action
-  Cancellation : List ℕ → Action
-
+-- the call that asks for an action
 abbrev pub callOf : Action → Call
 callOf (Addition rec) = Add rec
 callOf (Amendment rec) = Amend rec
 callOf (Cancellation id) = Cancel id
 
--- ---- the records that a list of actions makes
--- its status is "0 "
-abbrev pub isCancelledRec : List ℕ → Bool
-isCancelledRec rec = sameBytes (fieldOf rec 19) (48 ∷ 32 ∷ [])
+-- ---- calls by the rules
+-- what stands after one: a refused one leaves the state
+abbrev pub standingByRule : Verdict → ℕ → ℕ → State → Call → State
+standingByRule v n m s call = cond (eqb (rules v n m s call .code) 0) (next s call) s
 
-abbrev pub hasId : List ℕ → List ℕ → Bool
-hasId id rec = sameBytes (idOf rec) id
+-- after several, and the answers that the rules give: behind a state that stands, and behind an opening
+abbrev pub standingBehind : Verdict → ℕ → ℕ → State → List Call → State
+standingBehind v n m s [] = s
+standingBehind v n m s (call ∷ calls) = standingBehind v n m (standingByRule v n m s call) calls
 
--- the record with this identifier replaced where it stands, and cancelled
-abbrev pub replacedBy : List ℕ → List ℕ → List ℕ
-replacedBy new rec = cond (hasId (idOf new) rec) new rec
+abbrev pub answersBehind : Verdict → ℕ → ℕ → State → List Call → List Answer
+answersBehind v n m s [] = []
+answersBehind v n m s (call ∷ calls) = rules v n m s call ∷ answersBehind v n m (standingByRule v n m s call) calls
 
-abbrev pub cancelledFor : List ℕ → List ℕ → List ℕ
-cancelledFor id rec = cond (hasId id rec) (cancelledRec rec) rec
+abbrev pub standingByRules : Verdict → ℕ → ℕ → List Call → State
+standingByRules v n m calls = standingBehind v n m (state []) calls
 
--- add puts a record behind the last, amend replaces it where it stands, cancel sets its status
-abbrev pub recordsAfter : List (List ℕ) → Action → List (List ℕ)
-recordsAfter recs (Addition rec) = recs ++ rec ∷ []
-recordsAfter recs (Amendment rec) = map (replacedBy rec) recs
-recordsAfter recs (Cancellation id) = map (cancelledFor id) recs
+abbrev pub answersByRules : Verdict → ℕ → ℕ → List Call → List Answer
+answersByRules v n m calls = answersBehind v n m (state []) calls
 
-abbrev pub recordsFrom : List (List ℕ) → List Action → List (List ℕ)
-recordsFrom recs [] = recs
-recordsFrom recs (a ∷ xs) = recordsFrom (recordsAfter recs a) xs
-
-abbrev pub recordsOf : List Action → List (List ℕ)
-recordsOf xs = recordsFrom [] xs
-
--- ---- the rules, in the order of the table of refusals
-unfoldable pub some : (List ℕ → Bool) → List (List ℕ) → Bool
-some test [] = false
-some test (rec ∷ recs) = test rec || some test recs
-
--- identifier present, cancelled or not; that consignment is cancelled
-abbrev pub isPresent : List (List ℕ) → List ℕ → Bool
-isPresent recs id = some (hasId id) recs
-
-abbrev pub isCancelledThere : List (List ℕ) → List ℕ → Bool
-isCancelledThere recs id = some (λ rec. hasId id rec && isCancelledRec rec) recs
-
--- 232, 233: amend, cancel
-abbrev pub liveRule : List (List ℕ) → List ℕ → Answer
-liveRule recs id = cond (isPresent recs id) (cond (isCancelledThere recs id) (answer 233 0) accepted) (answer 232 0)
-
--- the table, then 2, 232, 233 and 230, with so many places
-unfoldable pub actionRule : List (List ℕ) → ℕ → Action → Answer
-actionRule recs places (Addition rec) =
-    orElse (recordAnswer true rec) (cond (isPresent recs (idOf rec)) (answer 2 1) (cond (ltb (length recs) places) accepted (answer 230 0)))
-actionRule recs places (Amendment rec) = orElse (recordAnswer true rec) (liveRule recs (idOf rec))
-actionRule recs places (Cancellation id) = cond (rightId id) (liveRule recs id) (answer 1 1)
-
-abbrev pub kindOf : Action → ℕ
-kindOf (Addition rec) = 1
-kindOf (Amendment rec) = 3
-kindOf (Cancellation id) = 2
-
-abbrev pub bodyOf : Action → List ℕ
-bodyOf (Addition rec) = rec
-bodyOf (Amendment rec) = rec
-bodyOf (Cancellation id) = id
-
--- 236 first, and last 231, with so many journal bytes left
-unfoldable pub entryRule : List (List ℕ) → ℕ → ℕ → Action → Answer
-entryRule recs places room a =
-    cond (eqb (length (bodyOf a)) (bodyLength (kindOf a)))
-    (orElse (actionRule recs places a) (cond (leb (entryLength (kindOf a)) room) accepted (answer 231 0)))
-    wrongLength
-
--- undo: 234 where no action stands
-abbrev pub undoRule : List Action → Answer
-undoRule [] = answer 234 0
-undoRule (a ∷ xs) = accepted
-
-abbrev pub ruleFor : List (List ℕ) → ℕ → ℕ → List Action → Call → Answer
-ruleFor recs places room xs Open = accepted
-ruleFor recs places room xs (Add rec) = entryRule recs places room (Addition rec)
-ruleFor recs places room xs (Amend rec) = entryRule recs places room (Amendment rec)
-ruleFor recs places room xs (Cancel id) = entryRule recs places room (Cancellation id)
-ruleFor recs places room xs Undo = undoRule xs
-
--- ---- what a list of actions makes of two buffers of n and m bytes: its records and its entries, printed one behind the other, zeros behind them
-abbrev pub zeroFilled : ℕ → List ℕ → List ℕ
-zeroFilled n s = s ++ zeros (n - length s)
-
-abbrev pub entryOf : Action → List ℕ
-entryOf a = entry (kindOf a) (bodyOf a)
-
-abbrev pub entriesOf : List Action → List ℕ
-entriesOf xs = joined (map entryOf xs)
-
-unfoldable pub made : ℕ → ℕ → List Action → Batch
-made n m xs =
-    batchOf (zeroFilled n (linesOf (recordsOf xs)))
-    (zeroFilled m (entriesOf xs))
-    (countsOf (totalsOf (recordsOf xs)) (length (recordsOf xs)) (length (entriesOf xs)))
-
--- the answer that the rules give where these actions stand
-unfoldable pub rules : ℕ → ℕ → List Action → Call → Answer
-rules n m xs call = ruleFor (recordsOf xs) (n / 401) (m - length (entriesOf xs)) xs call
-
--- each action acceptable in its turn, behind those done
-abbrev pub InTurnBehind : ℕ → ℕ → List Action → List Action → Type 0
-InTurnBehind n m before [] = Unit {0}
-InTurnBehind n m before (a ∷ xs) = (rules n m before (callOf a) ≡ accepted) × InTurnBehind n m (before ++ a ∷ []) xs
-
-abbrev pub InTurn : ℕ → ℕ → List Action → Type 0
-InTurn n m xs = InTurnBehind n m [] xs
-
--- ---- the standing list: the accepted actions, each accepted undo striking out the latest still standing; an accepted opening starts anew
-abbrev pub withoutLatest : List Action → List Action
-withoutLatest [] = []
-withoutLatest (a ∷ []) = []
-withoutLatest (a ∷ b ∷ xs) = a ∷ withoutLatest (b ∷ xs)
-
-abbrev pub standingAfter : List Action → Call → List Action
-standingAfter xs Open = []
-standingAfter xs (Add rec) = xs ++ Addition rec ∷ []
-standingAfter xs (Amend rec) = xs ++ Amendment rec ∷ []
-standingAfter xs (Cancel id) = xs ++ Cancellation id ∷ []
-standingAfter xs Undo = withoutLatest xs
-
--- after a call by the rules: a refused one leaves the list
-abbrev pub standingByRule : ℕ → ℕ → List Action → Call → List Action
-standingByRule n m xs call = cond (eqb (rules n m xs call .code) 0) (standingAfter xs call) xs
-
--- after these calls by the rules, and the answers that the rules give: behind a list that stands, and behind an opening
-abbrev pub standingBehind : ℕ → ℕ → List Action → List Call → List Action
-standingBehind n m xs [] = xs
-standingBehind n m xs (call ∷ calls) = standingBehind n m (standingByRule n m xs call) calls
-
-abbrev pub answersBehind : ℕ → ℕ → List Action → List Call → List Answer
-answersBehind n m xs [] = []
-answersBehind n m xs (call ∷ calls) = rules n m xs call ∷ answersBehind n m (standingByRule n m xs call) calls
-
-abbrev pub standingByRules : ℕ → ℕ → List Call → List Action
-standingByRules n m calls = standingBehind n m [] calls
-
-abbrev pub answersByRules : ℕ → ℕ → List Call → List Answer
-answersByRules n m calls = answersBehind n m [] calls
-
--- a list of actions performed as calls, by the rules: each is accepted, and they are what stands
-pub record Performed (n m : ℕ) (xs : List Action) : Type 0 where
-  pub answers : answersByRules n m (map callOf xs) ≡ map (λ a. accepted) xs
-  pub stands : standingByRules n m (map callOf xs) ≡ xs
+-- a list of actions performed as calls: each is accepted, and they are what stands
+pub record Performed (v : Verdict) (n m : ℕ) (xs : List Action) : Type 0 where
+  pub answers : answersByRules v n m (map callOf xs) ≡ map (λ a. accepted) xs
+  pub stands : standingByRules v n m (map callOf xs) ≡ state xs
 
 -- ---- the lengths of the two buffers: a multiple of 401 from 401 to 400,599, and 403 to 1,048,576
 pub record GoodLengths (n m : ℕ) : Type 0 where
@@ -186,30 +56,124 @@ pub record GoodLengths (n m : ℕ) : Type 0 where
   pub journalLeast : 403 ≤ m
   pub journalMost : m ≤ 1048576
 
--- ---- an undo after an accepted action: it is accepted, and gives back the batch before
-pub record Undoes (before b : Batch) : Type 0 where
-  pub answers : answerTo b Undo ≡ accepted
-  pub back : after b Undo ≡ before
+abbrev pub GoodBuffers : Batch → Type 0
+GoodBuffers b = GoodLengths (fileLength b) (journalLength b)
 
--- ---- an amendment writes, in the file, only the 401 bytes of that consignment's own place
-pub record AmendsOnePlace (b : Batch) (rec : List ℕ) (file : List ℕ) : Type 0 where
+-- ---- the table of refusals: under which condition each code is given, in any batch (`proofs/BatchCodes`)
+-- 237, all but opening: the lengths are right, and nothing stands
+pub record NothingStands (v : Verdict) (b : Batch) (call : Call) : Type 0 where
+  pub lengths : GoodBuffers b
+  pub other : call ≡ Open → ⊥
+  pub nothing : (s : State) → Stands v b s → ⊥
+
+-- the codes behind 237: a state stands, and of it this holds
+pub record SomeStands (v : Verdict) (b : Batch) (Meets : State → Type 0) : Type 0 where
+  pub standing : State
+  pub stands : Stands v b standing
+  pub meets : Meets standing
+
+-- 236: record not 399 bytes, identifier not 13
+abbrev pub WrongSize : Action → Type 0
+WrongSize a = length (bodyOf a) ≡ kindOf a .carries → ⊥
+
+-- 1 to 223: the answer to the body of an action, to a record by the verdict, to an identifier by 1 alone
+abbrev pub bodyAnswer : Verdict → Action → Answer
+bodyAnswer v (Addition rec) = v rec
+bodyAnswer v (Amendment rec) = v rec
+bodyAnswer v (Cancellation id) = cond (rightId id) accepted (answer 1 1)
+
+-- it has its length, and the answer to it this code; with 0 neither 236 nor 1 to 223 is met
+pub record BodyMeets (v : Verdict) (a : Action) (code : ℕ) : Type 0 where
+  pub size : length (bodyOf a) ≡ kindOf a .carries
+  pub says : bodyAnswer v a .code ≡ code
+
+-- 1 in cancel: 13 bytes that are no right identifier
+pub record WrongIdentifier (id : List ℕ) : Type 0 where
+  pub size : length id ≡ 13
+  pub wrong : rightId id ≡ false
+
+-- whose identifier is meant
+abbrev pub idIn : Action → List ℕ
+idIn (Addition rec) = idOf rec
+idIn (Amendment rec) = idOf rec
+idIn (Cancellation id) = id
+
+abbrev pub isAddition : Action → Bool
+isAddition (Addition rec) = true
+isAddition (Amendment rec) = false
+isAddition (Cancellation id) = false
+
+-- 2, add: identifier present, cancelled or not
+pub record AddedTwice (v : Verdict) (a : Action) (s : State) : Type 0 where
+  pub good : BodyMeets v a 0
+  pub adds : isAddition a ≡ true
+  pub present : isPresent (recordsOf (s .actions)) (idIn a) ≡ true
+
+-- 232, amend and cancel: identifier not present
+pub record NotPresent (v : Verdict) (a : Action) (s : State) : Type 0 where
+  pub good : BodyMeets v a 0
+  pub other : isAddition a ≡ false
+  pub absent : isPresent (recordsOf (s .actions)) (idIn a) ≡ false
+
+-- 233, amend and cancel: that consignment is cancelled
+pub record IsCancelled (v : Verdict) (a : Action) (s : State) : Type 0 where
+  pub good : BodyMeets v a 0
+  pub other : isAddition a ≡ false
+  pub present : isPresent (recordsOf (s .actions)) (idIn a) ≡ true
+  pub cancelled : isCancelledThere (recordsOf (s .actions)) (idIn a) ≡ true
+
+-- 230, add: no place of 401 bytes left, in a file buffer of n
+pub record NoPlaceLeft (v : Verdict) (n : ℕ) (a : Action) (s : State) : Type 0 where
+  pub good : BodyMeets v a 0
+  pub adds : isAddition a ≡ true
+  pub absent : isPresent (recordsOf (s .actions)) (idIn a) ≡ false
+  pub full : n / 401 ≤ length (recordsOf (s .actions))
+
+-- no code before 231 is met
+pub record KeepsRules (v : Verdict) (n : ℕ) (a : Action) (s : State) : Type 0 where
+  pub size : length (bodyOf a) ≡ kindOf a .carries
+  pub rules : actionRule v (recordsOf (s .actions)) (n / 401) a .code ≡ 0
+
+-- 231: fewer journal bytes left than the entry needs, in a journal of m
+pub record NoRoomLeft (v : Verdict) (n m : ℕ) (a : Action) (s : State) : Type 0 where
+  pub earlier : KeepsRules v n a s
+  pub short : m - length (entriesOf (s .actions)) < entryLength (kindOf a)
+
+-- 0: no code is met
+pub record KeepsAll (v : Verdict) (n m : ℕ) (a : Action) (s : State) : Type 0 where
+  pub earlier : KeepsRules v n a s
+  pub room : entryLength (kindOf a) ≤ m - length (entriesOf (s .actions))
+
+-- 234, undo: no standing entry in the journal
+abbrev pub NoAction : State → Type 0
+NoAction s = s .actions ≡ []
+
+abbrev pub SomeAction : State → Type 0
+SomeAction s = s .actions ≡ [] → ⊥
+
+-- ---- an undo after an accepted action: it is accepted, and gives back the batch before
+pub record Undoes (v : Verdict) (before b : Batch) : Type 0 where
+  pub answers : answerTo v b Undo ≡ accepted
+  pub back : after v b Undo ≡ before
+
+-- ---- a call writes, in the file, only the 401 bytes of one place
+pub record WritesOnePlace (b : Batch) (file : List ℕ) : Type 0 where
   pub place : ℕ
-  pub held : place < b .counts .held
-  pub own : idAt (b .file) place ≡ idOf rec
-  pub line : take 401 (drop (place * 401) file) ≡ lineOf rec
+  pub within : place * 401 + 401 ≤ fileLength b
+  pub long : length file ≡ fileLength b
   pub before : take (place * 401) file ≡ take (place * 401) (b .file)
   pub behind : drop (place * 401 + 401) file ≡ drop (place * 401 + 401) (b .file)
 
+-- an amendment that consignment's own place, and there its record with its line end
+pub record AmendsOnePlace (b : Batch) (rec : List ℕ) (file : List ℕ) : Type 0 where
+  pub writes : WritesOnePlace b file
+  pub held : writes .place < b .counts .held
+  pub own : idAt (b .file) (writes .place) ≡ idOf rec
+  pub line : take 401 (drop (writes .place * 401) file) ≡ lineOf rec
+
 -- ---- the file of a batch: its records, each with its line end, then zeros; without the zeros the file check accepts it, with the same four totals
-pub record GoodFileOf (b : Batch) : Type 0 where
-  pub records : List (List ℕ)
+pub record GoodFileOf (b : Batch) (records : List (List ℕ)) : Type 0 where
   pub many : length records ≡ b .counts .held
-  pub bytes : b .file ≡ zeroFilled (length (b .file)) (linesOf records)
+  pub bytes : b .file ≡ zeroFilled (fileLength b) (linesOf records)
   pub cut : take (b .counts .held * 401) (b .file) ≡ linesOf records
   pub passes : fileAnswer (linesOf records) ≡ passed (b .counts .totals)
-
--- ---- 237: some list of actions, each acceptable in its turn, makes this batch
-pub record MadeBySome (b : Batch) : Type 0 where
-  pub actions : List Action
-  pub inTurn : InTurn (length (b .file)) (length (b .journal)) actions
-  pub is : b ≡ made (length (b .file)) (length (b .journal)) actions

@@ -1,8 +1,12 @@
 pub mod Actions
-pub mod Journal
-pub mod Duties
+pub mod Records
+pub mod Rules
 pub mod Batch
-pub mod Guards
 pub mod History
 pub mod Demand
+pub mod Places
+pub mod Entries
+pub mod Test
+pub mod Work
+pub mod Undoing
 pub mod Examples

@@ -4,13 +4,14 @@ use Prim.Native.Nat.{ℕ}
 use mathlib.Core.Path.{_≡_, ap}
 use mathlib.Core.List.{List, [], _∷_, map}
 use lib.ListN.{length}
+use Rattle.batch.specs.Rules.{posted}
 use Rattle.batch.specs.Batch.{Batch, batchOf, Call, Open, Called}
 use Rattle.batch.specs.History.{GoodLengths}
 use Rattle.batch.specs.Demand.{RunOfCalls}
 use Rattle.batch.proofs.Demand.{demand-3, refusals-change-nothing}
 use Rattle.fuganorezi.specs.declared.BatchOutcome.{BatchOutcome}
 use Rattle.fuganorezi.specs.Calls.{countsIn, countsOut, BatchCalled}
-use Rattle.fuganorezi.specs.Demand.{CallersBatch, batchIn, answerIn, PromisedInC, leftInC, RunInC, Demand3InC, ChangesNothingInC}
+use Rattle.fuganorezi.specs.Demand.{CallersBatch, batchIn, answerIn, leftInC, RunInC, Demand3InC, ChangesNothingInC}
 
 -- ---- the batch's promise from the one in C's structs
 called-in : (b : Batch) (call : Call) (r : BatchOutcome) (file journal : List ℕ) → BatchCalled b call r file journal → Called b call (answerIn r) (countsIn (r .counts)) file journal
@@ -22,7 +23,7 @@ called-in b call r file journal p =
       journaled = p .journaled;
     }
 
-run-in : (calls : List Call) (outcomes : List BatchOutcome) (s e : CallersBatch) → RunInC s calls outcomes e → RunOfCalls (batchIn s) calls (map answerIn outcomes) (batchIn e)
+run-in : (calls : List Call) (outcomes : List BatchOutcome) (s e : CallersBatch) → RunInC s calls outcomes e → RunOfCalls posted (batchIn s) calls (map answerIn outcomes) (batchIn e)
 run-in [] [] s e run = ap batchIn run
 run-in [] (r ∷ outcomes) s e run = absurd run
 run-in (call ∷ calls) [] s e run = absurd run
@@ -48,7 +49,7 @@ demand-3-in-c s e calls r outcomes g run =
 pub refusals-change-nothing-in-c : (s : CallersBatch) (call : Call) (r : BatchOutcome) (file journal : List ℕ) → BatchCalled (batchIn s) call r file journal → (r .code ≡ 0 → ⊥)
     → ChangesNothingInC s call (record { file = file; journal = journal; counts = r .counts })
 refusals-change-nothing-in-c s call r file journal p refused =
-    let c = refusals-change-nothing (batchIn s) call (answerIn r) (batchOf file journal (countsIn (r .counts))) (called-in _ call r file journal p) refused in
+    let c = refusals-change-nothing posted (batchIn s) call (answerIn r) (batchOf file journal (countsIn (r .counts))) (called-in _ call r file journal p) refused in
     record {
       file = c .file;
       journal = c .journal;

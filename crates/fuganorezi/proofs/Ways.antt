@@ -11,10 +11,10 @@ use Rattle.fields.specs.Calls as Fields
 use Rattle.posting.specs.declared.FileAnswer.{FileAnswer}
 use Rattle.batch.specs.declared.Counts.{Counts}
 use Rattle.batch.specs.declared.Outcome.{Outcome}
-use Rattle.batch.specs.Batch.{Batch, Call, batchOf, answerTo, after, Called}
+use Rattle.batch.specs.Batch.{Batch, Call, batchOf, Called}
 use Rattle.fuganorezi.specs.declared.BatchOutcome.{BatchOutcome}
 use Rattle.fuganorezi.specs.declared.CodeAndPlace.{CodeAndPlace}
-use Rattle.fuganorezi.specs.Calls.{answerOf, Answered, outcomeOf, BatchCalled}
+use Rattle.fuganorezi.specs.Calls.{answerOf, Answered, outcomeOf, answerFor, BatchCalled}
 
 -- ---- one record, and the writers: what was promised of the answer holds of it by value
 pub answer-by-value : {a b : Answer} {r : CodeAndPlace} → a ≡ b → answerOf r ≡ a → answerOf r ≡ b
@@ -39,7 +39,7 @@ pub told : {b : Batch} {call : Call} {o : Outcome} {r : BatchOutcome} {file jour
     → Called b call (o .answer) (o .counts) file journal → r ≡ outcomeOf (o .answer) (o .counts) → BatchCalled b call r file journal
 told {b} {call} {o} kept e =
     record {
-      outcome = e ∙ ap (λ (a : Answer). outcomeOf a (o .counts)) (kept .answers) ∙ ap (outcomeOf (answerTo b call)) (kept .counted);
+      outcome = e ∙ ap (λ (a : Answer). outcomeOf a (o .counts)) (kept .answers) ∙ ap (outcomeOf (answerFor b call)) (kept .counted);
       filed = kept .filed;
       journaled = kept .journaled;
     }

@@ -18,6 +18,7 @@ use Rattle.posting.specs.File.{totals, fileAnswer}
 use Rattle.posting.specs.Report.{numbersOf}
 use Rattle.closing.specs.Closing.{closingAnswer}
 use Rattle.batch.specs.declared.Counts.{Counts}
+use Rattle.batch.specs.Rules.{posted}
 use Rattle.batch.specs.Batch.{Batch, Call, countsOf, answerTo, after}
 use Rattle.fuganorezi.specs.declared.BatchCounts.{BatchCounts}
 use Rattle.fuganorezi.specs.declared.BatchOutcome.{BatchOutcome}
@@ -81,8 +82,15 @@ countsOut c =
 abbrev pub outcomeOf : Answer → Counts → BatchOutcome
 outcomeOf a c = record { code = a .code; place = a .place; counts = countsOut c }
 
+-- what a call answers and leaves, under the record's own verdict
+abbrev pub answerFor : Batch → Call → Answer
+answerFor = answerTo posted
+
+abbrev pub leftBy : Batch → Call → Batch
+leftBy = after posted
+
 -- of a call: code, place and counts, and the file and the journal at exit
 pub record BatchCalled (b : Batch) (call : Call) (r : BatchOutcome) (file journal : List ℕ) : Type 0 where
-  pub outcome : r ≡ outcomeOf (answerTo b call) (after b call .counts)
-  pub filed : file ≡ after b call .file
-  pub journaled : journal ≡ after b call .journal
+  pub outcome : r ≡ outcomeOf (answerFor b call) (leftBy b call .counts)
+  pub filed : file ≡ leftBy b call .file
+  pub journaled : journal ≡ leftBy b call .journal

@@ -6,8 +6,9 @@ use mathlib.Core.Path.{_≡_}
 use mathlib.Core.List.{List, [], _∷_, map}
 use Rattle.text.specs.declared.Answer.{Answer}
 use Rattle.text.specs.Answers.{answer, accepted}
-use Rattle.batch.specs.Batch.{Batch, batchOf, noCounts, Call, Open}
-use Rattle.batch.specs.History.{made, standingByRules, answersByRules}
+use Rattle.batch.specs.Rules.{posted}
+use Rattle.batch.specs.Batch.{Batch, batchOf, noCounts, Call, Open, made}
+use Rattle.batch.specs.History.{standingByRules, answersByRules}
 use Rattle.batch.specs.Demand.{givenTo}
 use Rattle.fuganorezi.specs.declared.BatchCounts.{BatchCounts}
 use Rattle.fuganorezi.specs.declared.BatchOutcome.{BatchOutcome}
@@ -43,13 +44,16 @@ RunInC s [] (r ∷ outcomes) e = ⊥
 RunInC s (call ∷ calls) [] e = ⊥
 RunInC s (call ∷ calls) (r ∷ outcomes) e = (o : PromisedInC s call r) × RunInC (leftInC o) calls outcomes e
 
--- ---- demand 3, of a run of an opening and these calls
+-- ---- demand 3, of a run of an opening and these calls: the answers are those that the rules give, and the buffers and counts what the standing actions make
+abbrev pub madeByRules : ℕ → ℕ → List Call → Batch
+madeByRules n m calls = made n m (standingByRules posted n m calls)
+
 pub record Demand3InC (n m : ℕ) (calls : List Call) (opening : BatchOutcome) (outcomes : List BatchOutcome) (e : CallersBatch) : Type 0 where
   pub opens : answerIn opening ≡ accepted
-  pub answered : map answerIn outcomes ≡ answersByRules n m calls
-  pub file : e .file ≡ made n m (standingByRules n m calls) .file
-  pub journal : e .journal ≡ made n m (standingByRules n m calls) .journal
-  pub counts : e .counts ≡ countsOut (made n m (standingByRules n m calls) .counts)
+  pub answered : map answerIn outcomes ≡ answersByRules posted n m calls
+  pub file : e .file ≡ madeByRules n m calls .file
+  pub journal : e .journal ≡ madeByRules n m calls .journal
+  pub counts : e .counts ≡ countsOut (madeByRules n m calls .counts)
 
 -- ---- a refusal changes nothing and gives back the counts it got; a refused opening gives zero counts
 pub record ChangesNothingInC (s : CallersBatch) (call : Call) (e : CallersBatch) : Type 0 where

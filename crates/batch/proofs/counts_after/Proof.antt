@@ -26,8 +26,8 @@ returns c = search counted-add
 field-requires : tie.Need-field-requires
 field-requires c κs = search needs
 
-seek-requires : tie.Need-seek-requires
-seek-requires c κs = search needs
+record-number-requires : tie.Need-record-number-requires
+record-number-requires c κs = search needs
 
 sub-k : tie.Need-sub-k
 sub-k c = search amends-some
@@ -88,10 +88,10 @@ returns-2 c =
     let at-field = at-seek .before in
     let at-if2 = at-field .before in
     let at-if1 = at-if2 .before in
-    counted-amend _ _ _ _ _ _ _ _ _ _ _ _ (at-if1 .if1 .left) (at-if2 .if2 .taken) (at-field .field .ensures) (at-seek .seek .ensures) (at-amount3 .amount3 .ensures) (at-amount4 .amount4 .ensures) (at-amount5 .amount5 .ensures) (at-amount6 .amount6 .ensures) (at-amounts-replaced .amounts-replaced .ensures) (c .journal-grown2 .ensures)
+    counted-amend _ _ _ _ _ _ _ _ _ _ _ _ (at-if1 .if1 .left) (at-if2 .if2 .taken) (at-field .field .ensures) (at-seek .record-number .ensures) (at-amount3 .amount3 .ensures) (at-amount4 .amount4 .ensures) (at-amount5 .amount5 .ensures) (at-amount6 .amount6 .ensures) (at-amounts-replaced .amounts-replaced .ensures) (c .journal-grown2 .ensures)
 
-seek-requires-2 : tie.Need-seek-requires-2
-seek-requires-2 c κs = search needs
+record-number-requires-2 : tie.Need-record-number-requires-2
+record-number-requires-2 c κs = search needs
 
 sub-k-2 : tie.Need-sub-k-2
 sub-k-2 c = search cancels-some
@@ -150,7 +150,7 @@ returns-3 c =
     let at-seek2 = at-amount7 .before .before in
     let at-if2 = at-seek2 .before in
     let at-if1 = at-if2 .before in
-    counted-cancel _ _ _ _ _ _ _ _ _ _ (at-if1 .if1 .left) (at-if2 .if2 .left) (at-seek2 .seek2 .ensures) (at-amount7 .amount7 .ensures) (at-amount8 .amount8 .ensures) (at-one-cancelled .one-cancelled .ensures) (at-body-length .body-length .ensures) (c .journal-grown3 .ensures)
+    counted-cancel _ _ _ _ _ _ _ _ _ _ (at-if1 .if1 .left) (at-if2 .if2 .left) (at-seek2 .record-number2 .ensures) (at-amount7 .amount7 .ensures) (at-amount8 .amount8 .ensures) (at-one-cancelled .one-cancelled .ensures) (at-body-length .body-length .ensures) (c .journal-grown3 .ensures)
 
 pub counts-after-spec : {M : Type 1} → statement M
 counts-after-spec =
@@ -162,7 +162,7 @@ counts-after-spec =
     journal-grown-requires
     returns
     field-requires
-    seek-requires
+    record-number-requires
     sub-k
     mul-a
     add-e
@@ -179,7 +179,7 @@ counts-after-spec =
     amounts-replaced-requires
     journal-grown-requires-2
     returns-2
-    seek-requires-2
+    record-number-requires-2
     sub-k-2
     mul-a-2
     add-e-2

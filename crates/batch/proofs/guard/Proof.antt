@@ -1,7 +1,7 @@
 -- `batch::guard` meets its contract.
 -- Assumes nothing.
 use borrow.Author.Needs.{needs}
-use Rattle.batch.proofs.GuardWays.{lengths-wrong, lengths-file, not-sound, all-sound}
+use Rattle.batch.proofs.GuardWays.{guard-short, guard-long, guard-nothing, guard-found}
 use Rattle.batch.proofs.guard.Statement.{statement}
 use Rattle.batch.proofs.guard.Tie as tie
 
@@ -9,17 +9,17 @@ right-lengths-requires : tie.Need-right-lengths-requires
 right-lengths-requires c κs = search needs
 
 returns : tie.Need-returns
-returns c = search lengths-wrong
+returns c = search guard-short
 
-verify-requires : tie.Need-verify-requires
-verify-requires c κs = search lengths-file
+test-requires : tie.Need-test-requires
+test-requires c κs = search guard-long
 
 returns-2 : tie.Need-returns-2
-returns-2 c = search not-sound
+returns-2 c = search guard-nothing
 
 returns-3 : tie.Need-returns-3
-returns-3 c = search all-sound
+returns-3 c = search guard-found
 
 pub guard-spec : {M : Type 1} → statement M
 guard-spec =
-    tie.close (tie.spec right-lengths-requires returns verify-requires returns-2 returns-3)
+    tie.close (tie.spec right-lengths-requires returns test-requires returns-2 returns-3)

@@ -1,6 +1,6 @@
 -- `batch::right_lengths` meets its contract.
 -- Assumes nothing.
-use Rattle.batch.proofs.ReplayWays.{lengths-are}
+use Rattle.batch.proofs.StateWays.{lengths-are}
 use Rattle.batch.proofs.right_lengths.Statement.{statement}
 use Rattle.batch.proofs.right_lengths.Tie as tie
 

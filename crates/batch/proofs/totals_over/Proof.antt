@@ -5,7 +5,7 @@ use native.Mathlib.Omega.{arith}
 use mathlib.Core.Path.{_≡_}
 use Prim.Native.Nat.{_-_, _≤_}
 use Rattle.posting.specs.File.{totalsOver}
-use Rattle.batch.proofs.ReplayWays.{totals-start, totals-on, totals-end}
+use Rattle.batch.proofs.StateWays.{totals-start, totals-on, totals-end}
 use Rattle.batch.proofs.totals_over.Statement.{statement}
 use Rattle.batch.proofs.totals_over.Tie as tie
 

@@ -1,10 +1,10 @@
 -- `batch::undo` meets its contract.
 -- Assumes nothing.
 use borrow.Author.Needs.{needs}
-use native.Mathlib.Omega.{arith}
 use mathlib.Core.Path.{refl}
 use Rattle.batch.specs.Batch.{Undo}
-use Rattle.batch.proofs.CallWays.{guard-refuses, guard-passes, undo-none, undo-reach, undo-done}
+use Rattle.batch.proofs.CallWays.{is-other, guard-refuses}
+use Rattle.batch.proofs.UndoCall.{undo-none, undo-ready, undo-reach, undo-done}
 use Rattle.batch.proofs.undo.Statement.{statement}
 use Rattle.batch.proofs.undo.Tie as tie
 
@@ -18,7 +18,7 @@ same-length-2 : tie.Need-same-length-2
 same-length-2 c = search needs
 
 returns : tie.Need-returns
-returns c = guard-refuses _ _ _ _ (c .before .before .before .guard .ensures) Undo refl refl (c .if1 .taken)
+returns c = guard-refuses _ _ _ _ (c .before .before .before .guard .ensures) Undo (is-other Undo refl) refl (c .if1 .taken)
 
 same-length-3 : tie.Need-same-length-3
 same-length-3 c = search needs
@@ -27,19 +27,13 @@ same-length-4 : tie.Need-same-length-4
 same-length-4 c = search needs
 
 returns-2 : tie.Need-returns-2
-returns-2 c = search undo-none
+returns-2 c = undo-none _ _ _ _ (c .before .before .before .before .guard .ensures) (c .before .if1 .left) (c .if2 .taken)
 
-replay-requires : tie.Need-replay-requires
-replay-requires c κs =
-    let at-if1 = c .before .before .before in
-    let at-guard = at-if1 .before .before .before in
-    (omega (arith, undo-reach _ _ _ _ (at-guard .guard .ensures) (at-if1 .if1 .left)), guard-passes _ _ _ _ (at-guard .guard .ensures) (at-if1 .if1 .left) .bounded)
-
-totals-over-requires : tie.Need-totals-over-requires
-totals-over-requires c κs = search needs
+take-back-requires : tie.Need-take-back-requires
+take-back-requires c κs = undo-ready _ _ _ _ (c .before .before .before .before .before .before .guard .ensures) (c .before .before .before .if1 .left) (c .before .before .if2 .left)
 
 clear-entry-requires : tie.Need-clear-entry-requires
-clear-entry-requires c κs = undo-reach _ _ _ _ (c .before .before .before .before .before .before .before .before .before .before .before .before .guard .ensures) (c .before .before .before .before .before .before .before .before .before .if1 .left)
+clear-entry-requires c κs = undo-reach _ _ _ _ (c .before .before .before .before .before .before .before .before .before .before .guard .ensures) (c .before .before .before .before .before .before .before .if1 .left) (c .before .before .before .before .before .before .if2 .left)
 
 same-length-5 : tie.Need-same-length-5
 same-length-5 c = search needs
@@ -48,7 +42,7 @@ same-length-6 : tie.Need-same-length-6
 same-length-6 c = search needs
 
 returns-3 : tie.Need-returns-3
-returns-3 c = search undo-done
+returns-3 c = undo-done _ _ _ _ (c .before .before .before .before .before .before .before .before .before .before .before .before .before .guard .ensures) (c .before .before .before .before .before .before .before .before .before .before .if1 .left) (c .before .before .before .before .before .before .before .before .before .if2 .left) _ _ _ (c .before .before .before .before .before .before .take-back .ensures) (c .before .before .clear-entry .ensures)
 
 pub undo-spec : {M : Type 1} → statement M
 undo-spec =
@@ -61,8 +55,7 @@ undo-spec =
     same-length-3
     same-length-4
     returns-2
-    replay-requires
-    totals-over-requires
+    take-back-requires
     clear-entry-requires
     same-length-5
     same-length-6

@@ -1,0 +1,46 @@
+-- The file of a batch in which a state stands: its records, each with its line end, then zeros; cut behind the last record it passes the file check.
+-- Assumes nothing.
+use Prim.Native.Nat.{ℕ, _-_, _*_, _≤_}
+use mathlib.Core.Path.{refl, sym, ap, subst}
+use mathlib.Core.Bool.{false}
+use mathlib.Core.List.{List, []}
+use native.Mathlib.Omega.{arith}
+use lib.ListN.{length, getD}
+use lib.Seq.{take-at}
+use Rattle.record.proofs.Order.{accepted-exactly}
+use Rattle.posting.specs.Records.{linesOf, GoodRecords}
+use Rattle.posting.proofs.GoodFile.{file-passes}
+use Rattle.batch.specs.Records.{recordsOf}
+use Rattle.batch.specs.Rules.{Verdict, Fit}
+use Rattle.batch.specs.Batch.{Batch, State, zeros, zeroFilled, made, fileLength, journalLength, Stands}
+use Rattle.batch.specs.History.{GoodFileOf}
+use Rattle.batch.proofs.Sheets.{Sheet}
+use Rattle.batch.proofs.Made.{Fits, turns-fit, lines-long, file-long}
+use Rattle.batch.proofs.CallsMet.{lengths-exactly}
+
+good-records : (recs : List (List ℕ)) → Sheet recs → length recs ≤ 999 → GoodRecords recs
+good-records recs s few = record {
+  few = few;
+  wide = λ i h. s .each i h .long;
+  keeps = λ i h. accepted-exactly false (getD recs i []) (s .each i h .long) .0 (s .each i h .passes);
+  apart = λ i j l h e. let same = s .apart i j (omega arith) h e in omega arith;
+}
+
+made-file : (n m : ℕ) → n ≤ 400599 → (s : State) → Fits n m (s .actions) → GoodFileOf (made n m s) (recordsOf (s .actions))
+unfolding made
+made-file n m most s f =
+    let recs = recordsOf (s .actions) in
+    record {
+      many = refl;
+      bytes = ap (λ (k : ℕ). zeroFilled k (linesOf recs)) (sym (file-long n m (s .actions) f));
+      cut = take-at (linesOf recs) (zeros (n - length (linesOf recs))) (length recs * 401) (lines-long n m (s .actions) f);
+      passes = file-passes recs (good-records recs (f .sheet) (omega (arith, f .places)));
+    }
+
+pub standing-file : (v : Verdict) → Fit v → (b : Batch) (s : State) → Stands v b s → GoodFileOf b (recordsOf (s .actions))
+standing-file v fit b s st =
+    let n = fileLength b in
+    let m = journalLength b in
+    let good = lengths-exactly n m .0 (st .lengths) in
+    subst (λ (x : Batch). GoodFileOf x (recordsOf (s .actions))) (sym (st .is))
+    (made-file n m (good .most) s (turns-fit v fit n m (s .actions) (st .turns)))

@@ -1,0 +1,48 @@
+-- `batch::places::add_answer` meets its contract.
+-- Assumes nothing.
+use borrow.Author.Needs.{needs}
+use Rattle.batch.proofs.ActionWays.{add-broken, add-repeats, add-room, add-full}
+use Rattle.batch.proofs.places.add_answer.Statement.{statement}
+use Rattle.batch.proofs.places.add_answer.Tie as tie
+
+check-posting-requires : tie.Need-check-posting-requires
+check-posting-requires c κs = search needs
+
+returns : tie.Need-returns
+returns c = search add-broken
+
+field-requires : tie.Need-field-requires
+field-requires c κs = search needs
+
+record-number-requires : tie.Need-record-number-requires
+record-number-requires c κs = search needs
+
+returns-2 : tie.Need-returns-2
+returns-2 c =
+    add-repeats _ _ _ _ (c .before .before .before .before .before .check-posting .ensures) (c .before .before .before .if1 .left) _ (c .before .before .field .ensures) _ (c .before .record-number .ensures) (c .if2 .taken)
+
+mul-if3 : tie.Need-mul-if3
+mul-if3 c = search needs
+
+add-if3 : tie.Need-add-if3
+add-if3 c = search needs
+
+returns-3 : tie.Need-returns-3
+returns-3 c = search add-room
+
+returns-4 : tie.Need-returns-4
+returns-4 c = search add-full
+
+pub add-answer-spec : {M : Type 1} → statement M
+add-answer-spec =
+    tie.close
+    (tie.spec
+    check-posting-requires
+    returns
+    field-requires
+    record-number-requires
+    returns-2
+    mul-if3
+    add-if3
+    returns-3
+    returns-4)

@@ -1,0 +1,99 @@
+-- `batch::test::mark_addition` meets its contract.
+-- Assumes nothing.
+use borrow.Author.Needs.{needs}
+use Rattle.batch.proofs.TestWays.{added-short, added-refused, added-other, added-twice, added-now}
+use Rattle.batch.proofs.test.mark_addition.Statement.{statement}
+use Rattle.batch.proofs.test.mark_addition.Tie as tie
+
+mul-a : tie.Need-mul-a
+mul-a c = search needs
+
+add-e : tie.Need-add-e
+add-e c = search needs
+
+sub-if1 : tie.Need-sub-if1
+sub-if1 c = search needs
+
+returns : tie.Need-returns
+returns c = search added-short
+
+check-posting-requires : tie.Need-check-posting-requires
+check-posting-requires c κs = search needs
+
+returns-2 : tie.Need-returns-2
+returns-2 c = search added-refused
+
+sub-same : tie.Need-sub-same
+sub-same c = search needs
+
+part-same-start : tie.Need-part-same-start
+part-same-start c = search needs
+
+part-same-end : tie.Need-part-same-end
+part-same-end c = search needs
+
+field-requires : tie.Need-field-requires
+field-requires c κs = search needs
+
+same-requires : tie.Need-same-requires
+same-requires c κs = search needs
+
+returns-3 : tie.Need-returns-3
+returns-3 c = search added-other
+
+put-requires : tie.Need-put-requires
+put-requires c κs = search needs
+
+same-length : tie.Need-same-length
+same-length c = search needs
+
+returns-4 : tie.Need-returns-4
+returns-4 c = search added-twice
+
+mul-marks : tie.Need-mul-marks
+mul-marks c = search needs
+
+cast-marks : tie.Need-cast-marks
+cast-marks c = search needs
+
+mul-marks-2 : tie.Need-mul-marks-2
+mul-marks-2 c = search needs
+
+slice-write-marks : tie.Need-slice-write-marks
+slice-write-marks c = search needs
+
+same-length-2 : tie.Need-same-length-2
+same-length-2 c = search needs
+
+same-length-3 : tie.Need-same-length-3
+same-length-3 c = search needs
+
+returns-5 : tie.Need-returns-5
+returns-5 c = search added-now
+
+pub mark-addition-spec : {M : Type 1} → statement M
+mark-addition-spec =
+    tie.close
+    (tie.spec
+    mul-a
+    add-e
+    sub-if1
+    returns
+    check-posting-requires
+    returns-2
+    sub-same
+    part-same-start
+    part-same-end
+    field-requires
+    same-requires
+    returns-3
+    put-requires
+    same-length
+    returns-4
+    mul-marks
+    cast-marks
+    mul-marks-2
+    slice-write-marks
+    same-length-2
+    same-length-3
+    returns-5)
