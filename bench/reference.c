@@ -1,7 +1,6 @@
 #include "reference.h"
 
-#include <stdbool.h>
-#include <string.h>
+#include "slots.h"
 
 /* Where each field starts, counted from 0; the field's number is in the names' order. */
 enum {
@@ -35,7 +34,7 @@ enum {
     STEP = 401
 };
 
-enum { MOST_RECORDS = 999, IDENTIFIER_WIDTH = 13 };
+enum { MOST_RECORDS = 999 };
 
 /* Classes of bytes: one bit each, and a table that gives all classes of a byte. */
 enum { DIGIT = 1, CAPITAL = 2, MAIL_BYTE = 4 };
@@ -520,56 +519,34 @@ uint32_t reference_record_check(const uint8_t *bytes, size_t length, uint32_t *p
     return answer.code;
 }
 
-/* Repeated identifiers: open addressing, never more than half full; a slot holds a record's number, or 0. */
-
-enum { MOST_SLOTS = 2048, LEAST_SLOT_BITS = 4 };
-
-struct seen {
-    unsigned bits;
-    uint16_t slots[MOST_SLOTS];
-};
-
-/* A small file clears a small table. */
-static inline void clear_seen(struct seen *seen, size_t records)
+/* A record to be posted: a status that is not blank is malformed, whatever is wrong behind it. */
+static inline struct answer judge_status(const uint8_t *record, struct answer answer)
 {
-    seen->bits = LEAST_SLOT_BITS;
-    while (((size_t)1 << seen->bits) < 2 * records)
-        seen->bits++;
-    memset(seen->slots, 0, sizeof seen->slots[0] << seen->bits);
+    bool earlier = answer.code == 1 || (answer.code == 210 && answer.place < 19);
+    return earlier || blank(record + STATUS, 2) ? answer : (struct answer){210, 19};
 }
 
-/* An identifier in two words that overlap, so that no byte past it is read. */
-struct key {
-    uint64_t head, tail;
-};
-
-static inline struct key key_of(const uint8_t *identifier)
+struct reference_posting reference_posting_check(const uint8_t record[399])
 {
-    struct key key;
-    memcpy(&key.head, identifier, sizeof key.head);
-    memcpy(&key.tail, identifier + IDENTIFIER_WIDTH - sizeof key.tail, sizeof key.tail);
-    return key;
+    struct consignment it;
+    struct answer answer = judge_status(record, check_record(record, &it));
+    if (answer.code != 0)
+        return (struct reference_posting){answer.code, answer.place, 0, 0};
+    return (struct reference_posting){0, 0, it.cash, it.price};
 }
 
-static inline size_t first_slot(struct key key, unsigned bits)
-{
-    uint64_t mixed = key.head * 0x9e3779b97f4a7c15u ^ key.tail;
-    mixed ^= mixed >> 32;
-    return (mixed * 0xd6e8feb86659fd93u) >> (64 - bits);
-}
+/* Repeated identifiers */
 
 /* Notes the identifier of this record, numbered from 1; true if an earlier one has it. */
-static inline bool seen_before(struct seen *seen, const uint8_t *file, size_t number)
+static inline bool seen_before(struct slots *seen, const uint8_t *file, size_t number)
 {
     struct key key = key_of(file + (number - 1) * STEP);
-    size_t mask = ((size_t)1 << seen->bits) - 1;
-    for (size_t slot = first_slot(key, seen->bits);; slot = (slot + 1) & mask) {
-        if (seen->slots[slot] == 0) {
-            seen->slots[slot] = (uint16_t)number;
+    for (size_t slot = first_slot(seen, key);; slot = next_slot(seen, slot)) {
+        if (seen->numbers[slot] == 0) {
+            seen->numbers[slot] = (uint16_t)number;
             return false;
         }
-        struct key earlier = key_of(file + (size_t)(seen->slots[slot] - 1) * STEP);
-        if (earlier.head == key.head && earlier.tail == key.tail)
+        if (same_key(key_of(file + (size_t)(seen->numbers[slot] - 1) * STEP), key))
             return true;
     }
 }
@@ -587,7 +564,7 @@ static uint32_t refuse(uint64_t out[OUTS], struct answer answer, size_t number)
     return answer.code;
 }
 
-static inline struct answer check_in_file(const uint8_t *file, size_t number, struct seen *seen,
+static inline struct answer check_in_file(const uint8_t *file, size_t number, struct slots *seen,
                                           struct consignment *it)
 {
     const uint8_t *record = file + (number - 1) * STEP;
@@ -612,7 +589,7 @@ static inline void add_to_totals(uint64_t out[OUTS], const struct consignment *i
 
 uint32_t reference_file_check(const uint8_t *bytes, size_t length, uint64_t out[7])
 {
-    struct seen seen;
+    struct slots seen;
     struct consignment it;
     size_t records = length / STEP;
     if (length % STEP != 0)
@@ -620,7 +597,7 @@ uint32_t reference_file_check(const uint8_t *bytes, size_t length, uint64_t out[
     if (records > MOST_RECORDS)
         return refuse(out, (struct answer){213, 0}, 0);
     memset(out, 0, OUTS * sizeof out[0]);
-    clear_seen(&seen, records);
+    clear_slots(&seen, records);
     for (size_t number = 1; number <= records; number++) {
         struct answer answer = check_in_file(bytes, number, &seen, &it);
         if (answer.code != 0)

@@ -17,4 +17,13 @@ uint32_t reference_file_check(const uint8_t *bytes, size_t length, uint64_t out[
 /* One record without its line end: the code, and the place that it speaks of; 236 unless there are 399 bytes. */
 uint32_t reference_record_check(const uint8_t *bytes, size_t length, uint32_t *place);
 
+/* What a record to be posted is answered with, and its amounts in haléře; these are 0 where it is refused. */
+struct reference_posting {
+    uint32_t code, place;
+    uint64_t cash, price;
+};
+
+/* One record of 399 bytes, to be posted: a status that is not blank is malformed. */
+struct reference_posting reference_posting_check(const uint8_t record[399]);
+
 #endif
