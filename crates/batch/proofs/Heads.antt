@@ -61,7 +61,7 @@ module _ (pre rest : List ℕ) (a : Action) (e : length (bodyOf a) ≡ bodyLengt
   body-here = ap (take (bodyLength (numberOf a))) (drop-append-add pre (entryOf a ++ rest) 4) ∙ body-taken a rest e
 
 -- ---- the entry that stands at u
-pub record Stood (j : List ℕ) (end u : ℕ) : Type 0 where
+pub record EntryHere (j : List ℕ) (end u : ℕ) : Type 0 where
   pub act : Action
   pub kind : kindAt j end u ≡ numberOf act
   pub body : bodyAt j u (numberOf act) ≡ bodyOf act
@@ -104,9 +104,9 @@ module _ (j : List ℕ) (end u : ℕ) (lim : end ≤ length j) where
   entry-bytes : (size : ℕ) (h : List ℕ) → length h ≡ 4 → take 4 (drop u j) ≡ h → take (4 + size) (drop u j) ≡ h ++ take size (drop (u + 4) j)
   entry-bytes size h l e = take-add 4 size (drop u j) ∙ rw (e, drop-drop 4 u j)
 
-  stood-as : (a : Action) → kindAt j end u ≡ numberOf a → bodyAt j u (numberOf a) ≡ bodyOf a → headStands j end u (entryLength (numberOf a)) (getD (head (numberOf a)) 0 0) (getD (head (numberOf a)) 1 0) (numberOf a) ≡ true
-      → length (head (numberOf a)) ≡ 4 → (getD (head (numberOf a)) 0 0 ∷ getD (head (numberOf a)) 1 0 ∷ numberOf a ∷ 0 ∷ []) ≡ head (numberOf a) → Stood j end u
-  stood-as a ek eb h four-long is-head =
+  entry-as : (a : Action) → kindAt j end u ≡ numberOf a → bodyAt j u (numberOf a) ≡ bodyOf a → headStands j end u (entryLength (numberOf a)) (getD (head (numberOf a)) 0 0) (getD (head (numberOf a)) 1 0) (numberOf a) ≡ true
+      → length (head (numberOf a)) ≡ 4 → (getD (head (numberOf a)) 0 0 ∷ getD (head (numberOf a)) 1 0 ∷ numberOf a ∷ 0 ∷ []) ≡ head (numberOf a) → EntryHere j end u
+  entry-as a ek eb h four-long is-head =
       let g = headed j end u (entryLength (numberOf a)) (getD (head (numberOf a)) 0 0) (getD (head (numberOf a)) 1 0) (numberOf a) h in
       let sized : length (bodyOf a) ≡ bodyLength (numberOf a) = ap length (sym eb) ∙ body-long (bodyLength (numberOf a)) (g .room) in
       let long = entry-long a sized in
@@ -121,12 +121,12 @@ module _ (j : List ℕ) (end u : ℕ) (lim : end ≤ length j) where
         within = omega (arith, g .room);
       }
 
-  pub stood : (kindAt j end u ≡ 0 → ⊥) → Stood j end u
+  pub entry-here : (kindAt j end u ≡ 0 → ⊥) → EntryHere j end u
   unfolding kindAt
-  stood n = go (startsEntry j end u 1) (startsEntry j end u 2) (startsEntry j end u 3) refl refl refl
+  entry-here n = go (startsEntry j end u 1) (startsEntry j end u 2) (startsEntry j end u 3) refl refl refl
     where
-      go : (x y z : Bool) → startsEntry j end u 1 ≡ x → startsEntry j end u 2 ≡ y → startsEntry j end u 3 ≡ z → Stood j end u
-      go true y z ex ey ez = stood-as (Addition (bodyAt j u 1)) (rw ex) refl ex refl refl
-      go false true z ex ey ez = stood-as (Cancellation (bodyAt j u 2)) (rw (ex, ey)) refl ey refl refl
-      go false false true ex ey ez = stood-as (Amendment (bodyAt j u 3)) (rw (ex, ey, ez)) refl ez refl refl
+      go : (x y z : Bool) → startsEntry j end u 1 ≡ x → startsEntry j end u 2 ≡ y → startsEntry j end u 3 ≡ z → EntryHere j end u
+      go true y z ex ey ez = entry-as (Addition (bodyAt j u 1)) (rw ex) refl ex refl refl
+      go false true z ex ey ez = entry-as (Cancellation (bodyAt j u 2)) (rw (ex, ey)) refl ey refl refl
+      go false false true ex ey ez = entry-as (Amendment (bodyAt j u 3)) (rw (ex, ey, ez)) refl ez refl refl
       go false false false ex ey ez = absurd (n (rw (ex, ey, ez)))

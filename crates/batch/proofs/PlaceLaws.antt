@@ -99,14 +99,14 @@ module _ (recs : List (List ℕ)) (s : Sheet recs) (t : List ℕ) where
       go false = refl
 
   -- the record that is sought
-  pub data Standing (id : List ℕ) : Type 0 where
-    absent : recordNumber (linesOf recs ++ t) id (length recs) ≡ 0 → isPresent recs id ≡ false → Standing id
-    at : (k : ℕ) → recordNumber (linesOf recs ++ t) id (length recs) ≡ suc k → k < length recs → hasId id (getD recs k []) ≡ true → Standing id
+  pub data Located (id : List ℕ) : Type 0 where
+    absent : recordNumber (linesOf recs ++ t) id (length recs) ≡ 0 → isPresent recs id ≡ false → Located id
+    at : (k : ℕ) → recordNumber (linesOf recs ++ t) id (length recs) ≡ suc k → k < length recs → hasId id (getD recs k []) ≡ true → Located id
 
-  pub stands : (id : List ℕ) → Standing id
-  stands id = go (sought (linesOf recs ++ t) id (length recs))
+  pub located : (id : List ℕ) → Located id
+  located id = go (sought (linesOf recs ++ t) id (length recs))
     where
-      go : Sought (linesOf recs ++ t) id (length recs) → Standing id
+      go : Sought (linesOf recs ++ t) id (length recs) → Located id
       go (nowhere z none) = absent z (none-passes (hasId id) recs (λ i h. rw (← id-view i h) (none i h)))
       go (there k z h e) = at k z h (rw (← id-view k h) e)
 
@@ -118,23 +118,23 @@ module _ (recs : List (List ℕ)) (s : Sheet recs) (t : List ℕ) where
     pub its : hasId id (getD recs place []) ≡ true
 
   pub touched : (id : List ℕ) → isPresent recs id ≡ true → Touched id
-  touched id p = go (stands id)
+  touched id p = go (located id)
     where
-      go : Standing id → Touched id
+      go : Located id → Touched id
       go (absent z none) = absurd (clash p none)
       go (at k z h e) = record { place = k; within = h; found = omega (arith, z); its = e }
 
   pub present-view : (id : List ℕ) → present (linesOf recs ++ t) id (length recs) ≡ isPresent recs id
-  present-view id = go (stands id)
+  present-view id = go (located id)
     where
-      go : Standing id → present (linesOf recs ++ t) id (length recs) ≡ isPresent recs id
+      go : Located id → present (linesOf recs ++ t) id (length recs) ≡ isPresent recs id
       go (absent z none) = rw (z, none)
       go (at k z h e) = rw (z, ne-eqb (suc k) 0 (λ q. omega arith), is-present recs s id k h e)
 
   pub live-view : (id : List ℕ) → liveAnswer (linesOf recs ++ t) (length recs) id ≡ liveRule recs id
-  live-view id = go (stands id)
+  live-view id = go (located id)
     where
-      go : Standing id → liveAnswer (linesOf recs ++ t) (length recs) id ≡ liveRule recs id
+      go : Located id → liveAnswer (linesOf recs ++ t) (length recs) id ≡ liveRule recs id
       go (absent z none) = rw (z, none)
       go (at k z h e) =
           let place : suc k - 1 ≡ k = omega arith in

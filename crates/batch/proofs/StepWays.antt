@@ -14,7 +14,7 @@ use Rattle.batch.specs.Actions.{Action, Addition, Amendment, Cancellatio
 use Rattle.batch.specs.Places.{actionHeld}
 use Rattle.batch.specs.Entries.{bodyLength, kindAt, bodyAt}
 use Rattle.batch.specs.Test.{Noted, Added, Amended, Cancelled, heldAfter, Judged, MarkedEntry, EntryAt, Stepped, Stepping}
-use Rattle.batch.proofs.Heads.{kind-some, entry-long, kind-here, body-here, Stood, stood}
+use Rattle.batch.proofs.Heads.{kind-some, entry-long, kind-here, body-here, EntryHere, entry-here}
 
 -- ---- an entry, by its kind
 module _ (file : List ℕ) (held used kind : ℕ) (body marks table : List ℕ) (r : Bool) where
@@ -96,8 +96,8 @@ module _ (file journal : List ℕ) (end held used : ℕ) (marks table : List ℕ
   }
 
   module _ (some : kind ≡ 0 → ⊥) (n : ℕ) (en : (n ≡ bodyLength kind) × (13 ≤ n) × (n ≤ 399)) where
-    here : Stood journal end used
-    here = stood journal end used (pre .within) (λ z. some (ek ∙ z))
+    here : EntryHere journal end used
+    here = entry-here journal end used (pre .within) (λ z. some (ek ∙ z))
 
     kind-is : kind ≡ numberOf (here .act)
     kind-is = ek ∙ here .kind
