@@ -342,9 +342,11 @@ static inline uint32_t read_address(const uint8_t *record, struct consignment *i
         return 3;
     if ((it->name = read_text(record + NAME, 30)) == MALFORMED)
         return 4;
-    if ((it->postcode = read_digits(record + POSTCODE, 5)) == MALFORMED)
+    it->country = read_country(record + COUNTRY);
+    it->postcode = it->country == ABSENT ? read_digits(record + POSTCODE, 5) : read_text(record + POSTCODE, 5);
+    if (it->postcode == MALFORMED)
         return 5;
-    if ((it->country = read_country(record + COUNTRY)) == MALFORMED)
+    if (it->country == MALFORMED)
         return 6;
     if ((it->municipality = read_text(record + MUNICIPALITY, 40)) == MALFORMED)
         return 7;
@@ -402,12 +404,12 @@ struct answer {
 
 static const struct answer accepted = {0, 0};
 
-/* 27: the first of 4, 5, 7 that breaks it, or 0. A postcode goes with no country, and a country with no postcode. */
+/* 27: the first of 4, 5, 7 that breaks it, or 0. Abroad there need be no postcode. */
 static inline uint32_t wrong_address(const struct consignment *it)
 {
     if (it->name == ABSENT)
         return 4;
-    if ((it->country == ABSENT) != (it->postcode == VALUE))
+    if (it->country == ABSENT && it->postcode == ABSENT)
         return 5;
     return it->municipality == ABSENT ? 7 : 0;
 }

@@ -23,9 +23,9 @@ extern "C" {
 
 /* The version of this header, which CHANGELOG.md follows. The first number changes where a program has to be changed. */
 #define FUGANOREZI_VERSION_MAJOR 1
-#define FUGANOREZI_VERSION_MINOR 3
+#define FUGANOREZI_VERSION_MINOR 4
 #define FUGANOREZI_VERSION_PATCH 0
-#define FUGANOREZI_VERSION "1.3.0"
+#define FUGANOREZI_VERSION "1.4.0"
 
 /* Lengths in bytes, unless another unit is said. */
 enum fuganorezi_lengths {
@@ -208,9 +208,10 @@ fuganorezi_answer fuganorezi_weight_write(uint8_t *bytes, size_t length, uint64_
  * 213 (0)  the file has more than 999 records.
  * 212 (0)  the record's line end is wrong.
  *   1 (1)  field 1 is no right identifier.
- * 210      a field is malformed (the first such, 2 to 26).
- *  27      the name is blank (4); the postcode is blank and the address domestic, or filled and
- *          the address abroad (5); the municipality is blank (7).
+ * 210      a field is malformed (the first such, 2 to 26). The postcode is five digits where the
+ *          country is blank, and else text, or blank.
+ *  27      the name is blank (4); the postcode is blank and the address domestic (5); the
+ *          municipality is blank (7).
  *  31 (15) the weight is blank or zero, with service 41.
  *  34 (15) the weight is blank or zero, without service 41.
  *  36 (16) with service 2, 4, 5 or 41 the cash on delivery is blank or zero; or without them it is

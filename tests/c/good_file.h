@@ -92,7 +92,7 @@ static inline void put_good_address(uint8_t *record, bool abroad)
     put_field(record, 2, "20240229");
     put_field(record, 3, "23:59:59");
     put_field(record, 4, "Ku\x9f" "era Ji\xfd\xa1"); /* CP852 */
-    put_field(record, 5, abroad ? "" : "11000");
+    put_field(record, 5, abroad ? "1030" : "11000");
     put_field(record, 6, abroad ? "AT" : "");
     put_field(record, 7, abroad ? "Wien" : "Praha 1");
     put_field(record, 8, abroad ? "" : "Star\x82 M\xd8sto");

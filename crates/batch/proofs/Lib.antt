@@ -28,6 +28,7 @@ pub mod OnePlace
 pub mod StandingFile
 pub mod History
 pub mod Demand
+pub mod Widened
 pub mod LineWays
 pub mod Tests
 pub mod TestedWays

@@ -4,6 +4,7 @@ pub mod Rules
 pub mod Batch
 pub mod History
 pub mod Demand
+pub mod Widened
 pub mod Places
 pub mod Entries
 pub mod Test

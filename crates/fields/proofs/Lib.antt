@@ -3,6 +3,7 @@ pub mod Bits
 pub mod Ways
 pub mod WordText
 pub mod TextWays
+pub mod PostcodeWays
 pub mod AmountWays
 pub mod ServiceWays
 pub mod ByteLaws
@@ -12,6 +13,7 @@ pub mod NumberLaws
 pub mod TextLaws
 pub mod MailLaws
 pub mod OtherLaws
+pub mod PostcodeLaws
 pub mod WeightLaws
 pub mod MoneyLaws
 pub mod ServicesLaws

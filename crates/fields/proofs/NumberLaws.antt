@@ -1,4 +1,4 @@
--- Fields of digits (postcode, telephone, variable symbol, serial and pieces): exactly which bytes are a value.
+-- Fields of digits (telephone, variable symbol, serial and pieces): exactly which bytes are a value.
 -- Assumes nothing.
 use Prim.Native.Nat.{ℕ, _^_, _≤_, _<_}
 use mathlib.Core.Path.{_≡_, refl, sym, ap}
@@ -14,7 +14,7 @@ use Rattle.text.specs.Lists.{part}
 use Rattle.text.specs.Numbers.{numberOf, digits}
 use Rattle.text.proofs.Lists.{spelled}
 use Rattle.text.proofs.Numbers.{ten-is, length-digits, digits-all, number-digits, number-below, digits-number}
-use Rattle.fields.specs.Numbers.{readDigits, readPostcode, isTelephone, readTelephone, readSymbol, readCount}
+use Rattle.fields.specs.Numbers.{readDigits, isTelephone, readTelephone, readSymbol, readCount}
 use Rattle.fields.specs.declared.numbers.NumberReading.the-variants.{Absent, Value, Malformed}
 use Rattle.fields.specs.Meanings.{IsDigits, IsCount, IsTelephoneOf}
 use Rattle.fields.proofs.ByteLaws.{both-left, both-right, blank-exactly, not-blank, digits-not-blank}
@@ -60,9 +60,6 @@ digits-exactly w f v some =
 
 pub digits-absent : (w : ℕ) (f : List ℕ) → (readDigits w f ≡ Absent) ↔ (f ≡ replicate w 32)
 digits-absent w f = absent-spaces Absent Malformed w f (allDigits f) (Value (numberOf f)) (λ e. not-absent (numberOf f) (sym e)) differs
-
-pub postcode-exactly : (f : List ℕ) (v : ℕ) → (readPostcode f ≡ Value v) ↔ IsDigits 5 f v
-postcode-exactly f v = digits-exactly 5 f v (omega arith)
 
 pub symbol-exactly : (f : List ℕ) (v : ℕ) → (readSymbol f ≡ Value v) ↔ IsDigits 10 f v
 symbol-exactly f v = digits-exactly 10 f v (omega arith)

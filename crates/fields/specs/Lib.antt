@@ -3,6 +3,7 @@ pub mod Dates
 pub mod Texts
 pub mod Numbers
 pub mod Others
+pub mod Postcodes
 pub mod Amounts
 pub mod Services
 pub mod ServiceTexts

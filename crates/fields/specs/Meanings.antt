@@ -51,7 +51,7 @@ pub record IsTextOf (w : ℕ) (f : List ℕ) (n : ℕ) : Type 0 where
   pub last : getD f (n - 1) 0 ≡ 32 → ⊥
   pub spaces : drop n f ≡ replicate (w - n) 32
 
--- ---- 5, 21: w digits
+-- ---- 21, and 5 at home: w digits
 pub record IsDigits (w : ℕ) (f : List ℕ) (v : ℕ) : Type 0 where
   pub bytes : f ≡ digits w v
   pub small : v < 10 ^ w
@@ -62,6 +62,12 @@ pub record IsCountryOf (f : List ℕ) (a b : ℕ) : Type 0 where
   pub first : (65 ≤ a) × (a ≤ 90)
   pub second : (65 ≤ b) × (b ≤ 90)
   pub foreign : a ≡ 67 → b ≡ 90 → ⊥
+
+-- ---- 5, judged by 6: blank; with a blank country five digits, with another text as in field 4
+pub data GoodPostcode (country f : List ℕ) : Type 0 where
+  blank : f ≡ replicate 5 32 → GoodPostcode country f
+  at-home : (v : ℕ) → country ≡ replicate 2 32 → IsDigits 5 f v → GoodPostcode country f
+  abroad : (n : ℕ) → (country ≡ replicate 2 32 → ⊥) → IsTextOf 5 f n → GoodPostcode country f
 
 -- ---- 12: "+", twelve digits, spaces
 pub record IsTelephoneOf (f : List ℕ) (v : ℕ) : Type 0 where

@@ -1,4 +1,4 @@
--- Fields of digits alone: postcode, telephone, variable symbol, serial and pieces.
+-- Fields of digits alone: telephone, variable symbol, serial and pieces; and the digits of a postcode at home.
 -- Assumes nothing.
 use Prim.Native.Nat.{ℕ}
 use mathlib.Core.Bool.{Bool, true, false, _&&_}
@@ -17,10 +17,6 @@ use Rattle.fields.specs.declared.numbers.NumberReading.the-variants.{Abs
 -- so many digits, or blank
 abbrev pub readDigits : ℕ → List ℕ → NumberReading
 readDigits w f = framed Absent Malformed w f (allDigits f) (Value (numberOf f))
-
--- ---- 5: postcode, five digits or blank
-abbrev pub readPostcode : List ℕ → NumberReading
-readPostcode = readDigits (widthOf 5)
 
 -- ---- 12: telephone, blank, or "+", twelve digits, spaces
 abbrev pub isTelephone : List ℕ → Bool

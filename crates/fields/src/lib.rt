@@ -1,8 +1,9 @@
 // Readings of a record's fields, an enum per kind: absent, the value as data, or malformed; and the writings of weight and money.
 mod amounts; // 15 to 17: weight and money
 mod dates; // 2 and 3: date and time
-mod numbers; // 5, 12, 21, 23, 24: postcode, telephone, variable symbol, serial, pieces
+mod numbers; // 12, 21, 23, 24: telephone, variable symbol, serial, pieces
 mod others; // 6, 14, 19, 22, 25: country, status, main consignment, and those that stay blank
+mod postcodes; // 5: postcode, by country
 mod services; // 18: services
 mod texts; // 4, 7 to 11, 13, 20, 26: texts and e-mail
 
@@ -21,7 +22,6 @@ pub use dates::read_date;
 pub use dates::read_time;
 pub use numbers::NumberReading;
 pub use numbers::read_count;
-pub use numbers::read_postcode;
 pub use numbers::read_symbol;
 pub use numbers::read_telephone;
 pub use others::CountryReading;
@@ -32,6 +32,8 @@ pub use others::read_country;
 pub use others::read_empty;
 pub use others::read_main;
 pub use others::read_status;
+pub use postcodes::PostcodeReading;
+pub use postcodes::read_postcode;
 pub use services::Services;
 pub use services::ServicesReading;
 pub use services::read_services;

@@ -1,12 +1,10 @@
-// 5, 12, 21, 23, 24: numbers.
+// 12, 21, 23, 24: numbers; and the digits of 5.
 ghost use mathlib.Core.Path.{_≡_};
 ghost use Prim.Native.Nat.{_≤_};
 ghost use lib.ListN.{length};
 ghost use Rattle.text.specs.Promises.{Gives};
-ghost use Rattle.fields.specs.Numbers.{readDigits, readPostcode, readTelephone, readSymbol, readCount, malformedNumber, absentNumber, numberIn};
+ghost use Rattle.fields.specs.Numbers.{readDigits, readTelephone, readSymbol, readCount, malformedNumber, absentNumber, numberIn};
 use layout::WIDTHS;
-
-const POSTCODE_WIDTH: usize = WIDTHS[5 - 1];
 
 const TELEPHONE_WIDTH: usize = WIDTHS[12 - 1];
 
@@ -54,15 +52,6 @@ impl NumberReading {
     }
 }
 
-pub fn read_postcode(f: &[u8]) -> NumberReading
-    ensures { λ r. ⌜ Gives (readPostcode (now (f .entry))) r ⌝ }
-{
-    if f.len() != POSTCODE_WIDTH {
-        return NumberReading::Malformed;
-    }
-    read_digits(f)
-}
-
 pub fn read_symbol(f: &[u8]) -> NumberReading
     ensures { λ r. ⌜ Gives (readSymbol (now (f .entry))) r ⌝ }
 {
@@ -73,7 +62,7 @@ pub fn read_symbol(f: &[u8]) -> NumberReading
 }
 
 // A short part of digits alone, or blank.
-fn read_digits(f: &[u8]) -> NumberReading
+pub(crate) fn read_digits(f: &[u8]) -> NumberReading
     requires { ⌜ length (now f) ≤ 16 ⌝ }
     ensures { λ r. ⌜ r ≡ readDigits (length (now (f .entry))) (now (f .entry)) ⌝ }
 {

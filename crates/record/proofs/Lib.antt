@@ -6,3 +6,5 @@ pub mod Status
 pub mod Codes
 pub mod Turns
 pub mod WeightCodes
+pub mod AddressCodes
+pub mod BlankAbroad

@@ -54,16 +54,20 @@ pub record-outcome : (toBePosted : Bool) (rec : List ℕ) → length rec ≡ 399
 unfolding recordAnswer
 record-outcome toBePosted rec e = rw (eq-eqb (length rec) 399 e) (outcome (table toBePosted rec))
 
--- code 0 exactly if none of the conditions holds
-pub accepted-exactly : (toBePosted : Bool) (rec : List ℕ) → length rec ≡ 399 → (recordAnswer toBePosted rec .code ≡ 0) ↔ (noneBroken (table toBePosted rec) ≡ true)
-accepted-exactly toBePosted rec e = go (record-outcome toBePosted rec e) (none-zero toBePosted rec)
+-- code 0 exactly if none of the conditions holds: of any table without a code 0, and of the record's
+pub table-accepts : (rs : List Rule) → lacks 0 (map codeOf rs) ≡ true → (verdict rs .code ≡ 0) ↔ (noneBroken rs ≡ true)
+table-accepts rs n = go (outcome rs)
   where
-    go : {rs : List Rule} {a : Answer} → TableOutcome rs a → lacks 0 (map codeOf rs) ≡ true → (a .code ≡ 0) ↔ (noneBroken rs ≡ true)
-    go (good q g) n = (λ z. q, λ t. ap (λ (x : Answer). x .code) g)
-    go {rs} (bad q f) n = (
+    go : {a : Answer} → TableOutcome rs a → (a .code ≡ 0) ↔ (noneBroken rs ≡ true)
+    go (good q g) = (λ z. q, λ t. ap (λ (x : Answer). x .code) g)
+    go (bad q f) = (
       λ z. absurd (lacks-other 0 (f .here .code) (map codeOf rs) (rw (f .split) (lacks-there (f .before) (f .here) (f .after))) n (sym (ap (λ (x : Answer). x .code) (f .case .says)) ∙ z)),
       λ t. absurd (clash t q),
     )
+
+pub accepted-exactly : (toBePosted : Bool) (rec : List ℕ) → length rec ≡ 399 → (recordAnswer toBePosted rec .code ≡ 0) ↔ (noneBroken (table toBePosted rec) ≡ true)
+unfolding recordAnswer
+accepted-exactly toBePosted rec e = rw (eq-eqb (length rec) 399 e) (table-accepts (table toBePosted rec) (none-zero toBePosted rec))
 
 -- ---- and no other code than those of `recordCodes`
 -- a table gives 0 or one of its codes

@@ -12,13 +12,15 @@ use Rattle.fields.specs.declared.others.CountryReading.{CountryReading}
 use Rattle.fields.specs.declared.others.EmptyReading.{EmptyReading}
 use Rattle.fields.specs.declared.others.StatusReading.{StatusReading}
 use Rattle.fields.specs.declared.others.MainReading.{MainReading}
+use Rattle.fields.specs.declared.postcodes.PostcodeReading.{PostcodeReading}
 use Rattle.fields.specs.declared.amounts.WeightReading.{WeightReading}
 use Rattle.fields.specs.declared.amounts.MoneyReading.{MoneyReading}
 use Rattle.fields.specs.declared.services.ServicesReading.{ServicesReading}
 use Rattle.fields.specs.Dates.{readDate, readTime}
 use Rattle.fields.specs.Texts.{readText, readMail}
-use Rattle.fields.specs.Numbers.{readPostcode, readTelephone, readSymbol, readCount}
+use Rattle.fields.specs.Numbers.{readTelephone, readSymbol, readCount}
 use Rattle.fields.specs.Others.{readCountry, readEmpty, readStatus, readMain}
+use Rattle.fields.specs.Postcodes.{readPostcode}
 use Rattle.fields.specs.Amounts.{readWeight, readMoney}
 use Rattle.fields.specs.Services.{readServices}
 use Rattle.record.specs.Readings.{whenOf, addressOf, streetOf, contactOf, goodsOf, marksOf, pieceOf, tailOf}
@@ -29,11 +31,11 @@ module _ (rec : List ℕ) where
       → record { date = date; time = time } ≡ whenOf rec
   when-is f2 f3 date time p2 q2 p3 q3 = rw (q2, p2, q3, p3)
 
-  pub address-is : (f4 f5 f6 f7 : List ℕ) (name municipality : TextReading) (postcode : NumberReading) (country : CountryReading)
-      → f4 ≡ fieldOf rec 4 → name ≡ readText (widthOf 4) f4 → f5 ≡ fieldOf rec 5 → postcode ≡ readPostcode f5 → f6 ≡ fieldOf rec 6 → country ≡ readCountry f6
+  pub address-is : (f4 f5 f6 f7 : List ℕ) (name municipality : TextReading) (postcode : PostcodeReading) (country : CountryReading)
+      → f4 ≡ fieldOf rec 4 → name ≡ readText (widthOf 4) f4 → f6 ≡ fieldOf rec 6 → country ≡ readCountry f6 → f5 ≡ fieldOf rec 5 → postcode ≡ readPostcode country f5
       → f7 ≡ fieldOf rec 7 → municipality ≡ readText (widthOf 7) f7
       → record { name = name; postcode = postcode; country = country; municipality = municipality } ≡ addressOf rec
-  address-is f4 f5 f6 f7 name municipality postcode country p4 q4 p5 q5 p6 q6 p7 q7 = rw (q4, p4, q5, p5, q6, p6, q7, p7)
+  address-is f4 f5 f6 f7 name municipality postcode country p4 q4 p6 q6 p5 q5 p7 q7 = rw (q4, p4, q5, p5, q6, p6, q7, p7)
 
   pub street-is : (f8 f9 f10 f11 : List ℕ) (district street house orientation : TextReading)
       → f8 ≡ fieldOf rec 8 → district ≡ readText (widthOf 8) f8 → f9 ≡ fieldOf rec 9 → street ≡ readText (widthOf 9) f9

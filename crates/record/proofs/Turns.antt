@@ -1,4 +1,4 @@
--- One row of a table in its turn, over any table: exactly when its code is given, and which answers move when it is made two.
+-- One row of a table in its turn, over any table: exactly when its code is given, and at which of its places; and which answers move when it is made two.
 -- Assumes nothing.
 use Prim.Native.Nat.{ℕ}
 use mathlib.Core.Path.{_≡_, refl, sym, ap, _∙_}
@@ -7,12 +7,14 @@ use mathlib.Core.List.{List, [], _∷_, _++_, map}
 use mathlib.Core.Logic.{_↔_}
 use borrow.Author.Tests.{eq-eqb, ne-eqb, eqb-true, eqb-false}
 use lib.Dec.{eqb}
+use lib.ListN.{length}
 use Rattle.text.specs.declared.Answer.{Answer}
-use Rattle.text.specs.Answers.{answer}
+use Rattle.text.specs.Answers.{answer, wrongLength}
 use Rattle.text.proofs.Booleans.{clash}
 use Rattle.record.specs.Table.{Case, Rule, at, rule, firstCase, verdict, broken, codeOf}
 use Rattle.record.specs.Codes.{lacks}
-use Rattle.record.specs.Outcomes.{noneBroken, ExactlyAt}
+use Rattle.record.specs.Rules.{table, recordAnswer}
+use Rattle.record.specs.Outcomes.{noCase, noneBroken, ExactlyAt, InItsTurn}
 use Rattle.record.proofs.Codes.{Lacking, lacking}
 use Rattle.record.proofs.Order.{Judged, passes, breaks, judge-case, none-other}
 
@@ -34,6 +36,68 @@ case-exactly (x ∷ before) c p b after first later =
         → ExactlyAt c p ((noneBroken (x ∷ before) ≡ true) × (b ≡ true)) a
     go (passes n e) l h = rw (e, n) h
     go (breaks y f) l h = never-given (λ z. l .first (sym (ap (λ (v : Answer). v .code) (f .says)) ∙ z)) (λ g. clash (g .0) (rw y))
+
+-- ---- a row with several cases, one at this place: its code comes with this place exactly if no row before it is broken, no case before this one holds,
+-- and this one does
+abbrev placeOf : Case → ℕ
+placeOf k = k .place
+
+place-other : (c p : ℕ) (ks : List Case) (v : Answer) → lacks p (map placeOf ks) ≡ true → (v ≡ answer c p → ⊥) → firstCase c ks v ≡ answer c p → ⊥
+place-other c p [] v l n = n
+place-other c p (k ∷ ks) v l n = let m = lacking p (k .place) (map placeOf ks) l in go (k .when) (m .first) (place-other c p ks v (m .rest) n)
+  where
+    go : (t : Bool) → (k .place ≡ p → ⊥) → (firstCase c ks v ≡ answer c p → ⊥) → cond t (answer c (k .place)) (firstCase c ks v) ≡ answer c p → ⊥
+    go true other n e = other (ap (λ (a : Answer). a .place) e)
+    go false other n e = n e
+
+case-place : (c p : ℕ) (earlier : List Case) (b : Bool) (later : List Case) (v : Answer) → lacks p (map placeOf earlier) ≡ true → lacks p (map placeOf later) ≡ true → (v ≡ answer c p → ⊥)
+    → (firstCase c (earlier ++ at p b ∷ later) v ≡ answer c p) ↔ ((noCase earlier ≡ true) × (b ≡ true))
+unfolding noCase
+case-place c p [] true later v first last n = (λ e. (refl, refl), λ h. refl)
+case-place c p [] false later v first last n = (λ e. absurd (place-other c p later v last n e), λ h. absurd (clash (h .1) refl))
+case-place c p (k ∷ earlier) b later v first last n =
+    let m = lacking p (k .place) (map placeOf earlier) first in
+    go (k .when) (m .first) (case-place c p earlier b later v (m .rest) last n)
+  where
+    go : (t : Bool) → (k .place ≡ p → ⊥) → (firstCase c (earlier ++ at p b ∷ later) v ≡ answer c p) ↔ ((noCase earlier ≡ true) × (b ≡ true))
+        → (cond t (answer c (k .place)) (firstCase c (earlier ++ at p b ∷ later) v) ≡ answer c p) ↔ ((cond t false (noCase earlier) ≡ true) × (b ≡ true))
+    go true other i = (λ e. absurd (other (ap (λ (a : Answer). a .place) e)), λ h. absurd (clash (h .0) refl))
+    go false other i = i
+
+pub place-exactly : (before : List Rule) (c p : ℕ) (earlier : List Case) (b : Bool) (later : List Case) (after : List Rule)
+    → lacks c (map codeOf before) ≡ true → lacks c (0 ∷ map codeOf after) ≡ true → lacks p (map placeOf earlier) ≡ true → lacks p (map placeOf later) ≡ true
+    → (verdict (before ++ rule c (earlier ++ at p b ∷ later) ∷ after) ≡ answer c p) ↔ ((noneBroken before ≡ true) × ((noCase earlier ≡ true) × (b ≡ true)))
+unfolding noneBroken
+place-exactly [] c p earlier b later after rows behind first last =
+    let i = case-place c p earlier b later (verdict after) first last (λ e. none-other c after behind (ap (λ (a : Answer). a .code) e)) in
+    (λ e. (refl, i .0 e), λ h. i .1 (h .1))
+place-exactly (x ∷ before) c p earlier b later after rows behind first last =
+    let m = lacking c (x .code) (map codeOf before) rows in
+    go (judge-case (x .code) (x .cases) (verdict (before ++ rule c (earlier ++ at p b ∷ later) ∷ after))) (m .first) (place-exactly before c p earlier b later after (m .rest) behind first last)
+  where
+    go : {a v : Answer} → Judged (x .code) (x .cases) v a → (x .code ≡ c → ⊥) → (v ≡ answer c p) ↔ ((noneBroken before ≡ true) × ((noCase earlier ≡ true) × (b ≡ true)))
+        → (a ≡ answer c p) ↔ ((noneBroken (x ∷ before) ≡ true) × ((noCase earlier ≡ true) × (b ≡ true)))
+    go (passes n e) other h = rw (e, n) h
+    go (breaks y f) other h = (λ e. absurd (other (sym (ap (λ (a : Answer). a .code) (f .says)) ∙ ap (λ (a : Answer). a .code) e)), λ g. absurd (clash (g .0) (rw y)))
+
+-- the same of the record's answer
+pub turn-exactly : (toBePosted : Bool) (rec : List ℕ) (before : List Rule) (c p : ℕ) (earlier : List Case) (b : Bool) (later : List Case) (after : List Rule) (condition : Type 0)
+    → (b ≡ true) ↔ condition → table toBePosted rec ≡ before ++ rule c (earlier ++ at p b ∷ later) ∷ after
+    → lacks c (236 ∷ map codeOf before) ≡ true → lacks c (0 ∷ map codeOf after) ≡ true → lacks p (map placeOf earlier) ≡ true → lacks p (map placeOf later) ≡ true
+    → (recordAnswer toBePosted rec ≡ answer c p) ↔ InItsTurn rec before earlier condition
+unfolding recordAnswer
+turn-exactly toBePosted rec before c p earlier b later after condition means split rows behind first last =
+    let m = lacking c 236 (map codeOf before) rows in
+    go (eqb (length rec) 399) refl (m .first) (place-exactly before c p earlier b later after (m .rest) behind first last)
+  where
+    go : (t : Bool) → eqb (length rec) 399 ≡ t → (_≡_ {A = ℕ} 236 c → ⊥)
+        → (verdict (before ++ rule c (earlier ++ at p b ∷ later) ∷ after) ≡ answer c p) ↔ ((noneBroken before ≡ true) × ((noCase earlier ≡ true) × (b ≡ true)))
+        → (cond t (verdict (table toBePosted rec)) wrongLength ≡ answer c p) ↔ InItsTurn rec before earlier condition
+    go true e other i = (
+      λ z. let h = i .0 (sym (ap verdict split) ∙ z) in record { long = eqb-true _ 399 e; turn = h .0; first = h .1 .0; holds = means .0 (h .1 .1) },
+      λ w. ap verdict split ∙ i .1 (w .turn, (w .first, means .1 (w .holds))),
+    )
+    go false e other i = (λ z. absurd (other (ap (λ (a : Answer). a .code) z)), λ w. absurd (eqb-false _ 399 e (w .long)))
 
 -- ---- a row made two by a condition
 -- where this code was given and the condition holds, the new code at this place; every other answer stays

@@ -28,6 +28,7 @@ use Rattle.fields.specs.Dates.{malformedDate, malformedTime}
 use Rattle.fields.specs.Texts.{malformedText, absentText}
 use Rattle.fields.specs.Numbers.{malformedNumber, absentNumber, numberIn}
 use Rattle.fields.specs.Others.{malformedCountry, absentCountry, malformedEmpty, malformedMain, absentMain}
+use Rattle.fields.specs.Postcodes.{malformedPostcode, absentPostcode}
 use Rattle.fields.specs.Amounts.{malformedWeight, malformedMoney, absentMoney, absentOrZeroMoney}
 use Rattle.fields.specs.Services.{hasCode, malformedServices, servicesIn}
 use Rattle.record.specs.declared.readings.Address.{Address}
@@ -84,7 +85,7 @@ pub when-form : (w : When) (a b : Bool) (r : Answer) → a ≡ malformedDate (w 
     → r ≡ Malformed 2 (a ∷ b ∷ []) → r ≡ Malformed 2 (whenFlags w)
 when-form w a b r ea eb er = er ∙ rw (ea, eb)
 
-pub address-form : (w : Address) (a b c d : Bool) (r : Answer) → a ≡ malformedText (w .name) → b ≡ malformedNumber (w .postcode) → c ≡ malformedCountry (w .country)
+pub address-form : (w : Address) (a b c d : Bool) (r : Answer) → a ≡ malformedText (w .name) → b ≡ malformedPostcode (w .postcode) → c ≡ malformedCountry (w .country)
     → d ≡ malformedText (w .municipality) → r ≡ Malformed 4 (a ∷ b ∷ c ∷ d ∷ []) → r ≡ Malformed 4 (addressFlags w)
 address-form w a b c d r ea eb ec ed er = er ∙ rw (ea, eb, ec, ed)
 
@@ -144,18 +145,18 @@ form-is toBePosted rec a c g m p a1 a2 a3 r2 r1 e2 e3 q2 e1 q1 =
     q1 ∙ rw (e1, rest) (rule-then (identifierRule rec) (malformedRule (malformed toBePosted (whenOf rec) a (streetOf rec) c g m p (tailOf rec)) ∷ []) (λ e. omega arith))
 
 -- ---- address and weight
-module _ (a : Address) (h n : Bool) (eh : h ≡ absentCountry (a .country)) (en : n ≡ absentNumber (a .postcode)) (x : Bool) (ex : x ≡ absentText (a .name)) where
+module _ (a : Address) (h n : Bool) (eh : h ≡ absentCountry (a .country)) (en : n ≡ absentPostcode (a .postcode)) (x : Bool) (ex : x ≡ absentText (a .name)) where
   pub nameless : x ≡ true → answer 27 4 ≡ verdict (addressRule a ∷ [])
   nameless t = rw (← ex, t)
 
-  pub misplaced : x ≡ false → (h && n || not h && not n) ≡ true → answer 27 5 ≡ verdict (addressRule a ∷ [])
-  misplaced t g = rw (← ex, t, ← eh, ← en, g)
+  pub unplaced : x ≡ false → (h && n) ≡ true → answer 27 5 ≡ verdict (addressRule a ∷ [])
+  unplaced t g = rw (← ex, t, ← eh, ← en, g)
 
   module _ (y : Bool) (ey : y ≡ absentText (a .municipality)) where
-    pub nowhere : x ≡ false → (h && n || not h && not n) ≡ false → y ≡ true → answer 27 7 ≡ verdict (addressRule a ∷ [])
+    pub nowhere : x ≡ false → (h && n) ≡ false → y ≡ true → answer 27 7 ≡ verdict (addressRule a ∷ [])
     nowhere t g u = rw (← ex, t, ← eh, ← en, g, ← ey, u)
 
-    pub placed : x ≡ false → (h && n || not h && not n) ≡ false → y ≡ false → accepted ≡ verdict (addressRule a ∷ [])
+    pub placed : x ≡ false → (h && n) ≡ false → y ≡ false → accepted ≡ verdict (addressRule a ∷ [])
     placed t g u = rw (← ex, t, ← eh, ← en, g, ← ey, u)
 
 pub weightless-41 : (s : Bool) → s ≡ true → answer 31 15 ≡ verdict (weightRules Weight.Absent s)

@@ -1,4 +1,5 @@
--- Records that pass, computed over the definitions: so the table does not refuse everything. And the two codes of a missing weight.
+-- Records that pass, computed over the definitions: so the table does not refuse everything. And postcodes at home and abroad, and the two codes of a
+-- missing weight.
 -- Assumes nothing.
 use Prim.Native.Nat.{ℕ}
 use Prim.Native.String.{String}
@@ -21,6 +22,7 @@ use Rattle.fields.specs.Amounts.{isMoney}
 use Rattle.fields.specs.Services.{codesFrom, hasCode, withCode, added, readServices}
 use Rattle.fields.specs.Examples.{inField}
 use Rattle.record.specs.Rules.{askedOf, givenOf, travelOf, table, recordAnswer}
+use Rattle.record.specs.BlankAbroad.{tableBlankAbroad, answerBlankAbroad}
 
 -- ---- a record from the texts of its fields, each with spaces behind to its width
 unfoldable pub laidOut : List ℕ → List String → List ℕ
@@ -34,10 +36,11 @@ recordOf ts = laidOut widths ts
 unfoldable pub domestic : List ℕ
 domestic = recordOf ("BO5412345671F" ∷ "20240229" ∷ "23:59:59" ∷ "Jan" ∷ "11000" ∷ "" ∷ "Praha" ∷ "" ∷ "" ∷ "" ∷ "" ∷ "" ∷ "" ∷ "" ∷ " 0.500" ∷ [])
 
-unfoldable pub abroad : List ℕ
-abroad =
+-- with this postcode and country
+unfoldable pub sentTo : String → String → List ℕ
+sentTo postcode country =
     recordOf
-    ("EE021831216CZ" ∷ "20991231" ∷ "00:00:00" ∷ "Max" ∷ "" ∷ "AT" ∷ "Wien" ∷ "" ∷ "Ring" ∷ "1" ∷ "" ∷ "" ∷ "m@w.at" ∷ "" ∷ "99.999" ∷ [])
+    ("EE021831216CZ" ∷ "20991231" ∷ "00:00:00" ∷ "Max" ∷ postcode ∷ country ∷ "Wien" ∷ "" ∷ "Ring" ∷ "1" ∷ "" ∷ "" ∷ "m@w.at" ∷ "" ∷ "99.999" ∷ [])
 
 -- ten crowns on delivery under service 41, twenty as the price specified: with this identifier, name and status
 unfoldable pub parcel : String → String → String → List ℕ
@@ -89,7 +92,21 @@ claims =
     answers 0 0 (recordAnswer true firstPiece)
     ∷ sameBytes firstPiece firstPieceWrittenOut
     ∷ answers 0 0 (recordAnswer true domestic)
-    ∷ answers 0 0 (recordAnswer true abroad)
+    ∷ answers 0 0 (recordAnswer true (sentTo "11000" ""))  -- at home
+    ∷ answers 27 5 (recordAnswer true (sentTo "" ""))
+    ∷ answers 210 5 (recordAnswer true (sentTo "1030" ""))
+    ∷ answers 0 0 (recordAnswer true (sentTo "" "AT"))  -- abroad
+    ∷ answers 0 0 (recordAnswer true (sentTo "1030" "AT"))
+    ∷ answers 0 0 (recordAnswer true (sentTo "W1 2" "GB"))
+    ∷ answers 210 5 (recordAnswer true (sentTo " 1030" "AT"))
+    ∷ answers 210 6 (recordAnswer true (sentTo "1030" "at"))  -- beside a malformed country
+    ∷ answers 210 6 (recordAnswer true (sentTo "" "CZ"))
+    ∷ answers 210 5 (recordAnswer true (sentTo " 1030" "at"))
+    ∷ answers 0 0 (answerBlankAbroad true (sentTo "11000" ""))  -- as it was
+    ∷ answers 0 0 (answerBlankAbroad true (sentTo "" "AT"))
+    ∷ answers 27 5 (answerBlankAbroad true (sentTo "11000" "AT"))
+    ∷ answers 210 5 (answerBlankAbroad true (sentTo "1030" "AT"))
+    ∷ answers 0 0 (answerBlankAbroad false cancelledParcel)
     ∷ answers 0 0 (recordAnswer true cashOnDelivery)
     ∷ answers 0 0 (recordAnswer true secondPiece)
     ∷ answers 0 0 (recordAnswer false cancelledParcel)
@@ -99,5 +116,5 @@ claims =
     ∷ []
 
 pub shown : allHold claims ≡ true
-unfolding bytes allHold every run numberAfter sameBytes shapeOf weighted endsRight rightId partsOf fieldOf framed daysIn readDate readTime filled contains isHost isMail isMoney codesFrom hasCode withCode added readServices askedOf givenOf travelOf table recordAnswer inField laidOut recordOf parcel domestic abroad cashOnDelivery firstPiece firstPieceWrittenOut secondPiece cancelledParcel weighingNothing answers claims
+unfolding bytes allHold every run numberAfter sameBytes shapeOf weighted endsRight rightId partsOf fieldOf framed daysIn readDate readTime filled contains isHost isMail isMoney codesFrom hasCode withCode added readServices askedOf givenOf travelOf table recordAnswer tableBlankAbroad answerBlankAbroad inField laidOut recordOf parcel domestic sentTo cashOnDelivery firstPiece firstPieceWrittenOut secondPiece cancelledParcel weighingNothing answers claims
 shown = refl

@@ -1,18 +1,23 @@
 -- What a record's answer means, in the paper's words: 0 exactly if none of the conditions holds; otherwise the first that holds, with its place. And
--- when the weight is missing, for which there are two codes.
+-- when the weight is missing, for which there are two codes, and what is wrong with an address.
 -- Assumes nothing.
 use Prim.Native.Nat.{ℕ}
 use mathlib.Core.Path.{_≡_}
-use mathlib.Core.Bool.{Bool, true, false, cond}
+use mathlib.Core.Bool.{Bool, true, false, cond, _&&_}
 use mathlib.Core.List.{List, [], _∷_, _++_}
 use mathlib.Core.Logic.{_↔_}
-use lib.ListN.{length}
+use lib.ListN.{length, replicate}
 use Rattle.text.specs.declared.Answer.{Answer}
 use Rattle.text.specs.Answers.{answer, accepted}
+use Rattle.layout.specs.Layout.{widthOf, fieldOf}
+use Rattle.fields.specs.Texts.{malformedText, absentText}
+use Rattle.fields.specs.Others.{readCountry, malformedCountry, absentCountry}
+use Rattle.fields.specs.Postcodes.{malformedPostcode, absentPostcode}
 use Rattle.fields.specs.Amounts.{absentOrZeroWeight}
-use Rattle.record.specs.Table.{Case, Rule, broken}
-use Rattle.record.specs.Readings.{addressOf, goodsOf}
-use Rattle.record.specs.Rules.{formRules, addressRule}
+use Rattle.fields.specs.Meanings.{GoodPostcode}
+use Rattle.record.specs.Table.{Case, Rule, at, placesFrom, broken}
+use Rattle.record.specs.Readings.{whenOf, addressOf, goodsOf}
+use Rattle.record.specs.Rules.{whenFlags, identifierRule, formRules, addressRule}
 
 -- ---- no case, no rule of a list holds
 unfoldable pub noCase : List Case → Bool
@@ -56,3 +61,38 @@ pub record WeightMissing (toBePosted : Bool) (rec : List ℕ) : Type 0 where
   pub long : length rec ≡ 399
   pub its-turn : noneBroken (formRules toBePosted rec ++ addressRule (addressOf rec) ∷ []) ≡ true
   pub missing : absentOrZeroWeight (goodsOf rec .weight) ≡ true
+
+-- ---- one case of a rule in its turn: 399 bytes that break no rule before it, no earlier case of the rule holds, and it does
+pub record InItsTurn (rec : List ℕ) (before : List Rule) (earlier : List Case) (condition : Type 0) : Type 0 where
+  pub long : length rec ≡ 399
+  pub turn : noneBroken before ≡ true
+  pub first : noCase earlier ≡ true
+  pub holds : condition
+
+-- ---- field n is blank
+abbrev pub Blank : List ℕ → ℕ → Type 0
+Blank rec n = fieldOf rec n ≡ replicate (widthOf n) 32
+
+-- ---- 210 at places 5 and 6: no field before it is malformed, and the postcode is not good beside the country, or the country is malformed
+abbrev pub PostcodeMalformed : List ℕ → Type 0
+PostcodeMalformed rec =
+    InItsTurn rec (identifierRule rec ∷ []) (placesFrom 2 (whenFlags (whenOf rec) ++ malformedText (addressOf rec .name) ∷ []))
+    (GoodPostcode (fieldOf rec 6) (fieldOf rec 5) → ⊥)
+
+abbrev pub CountryMalformed : List ℕ → Type 0
+CountryMalformed rec =
+    InItsTurn rec (identifierRule rec ∷ []) (placesFrom 2 (whenFlags (whenOf rec) ++ malformedText (addressOf rec .name) ∷ malformedPostcode (addressOf rec .postcode) ∷ []))
+    (malformedCountry (readCountry (fieldOf rec 6)) ≡ true)
+
+-- ---- 27 at places 4, 5 and 7: name blank; domestic with blank postcode; municipality blank
+abbrev pub NameMissing : Bool → List ℕ → Type 0
+NameMissing toBePosted rec = InItsTurn rec (formRules toBePosted rec) [] (Blank rec 4)
+
+abbrev pub PostcodeMissing : Bool → List ℕ → Type 0
+PostcodeMissing toBePosted rec = InItsTurn rec (formRules toBePosted rec) (at 4 (absentText (addressOf rec .name)) ∷ []) (Blank rec 6 × Blank rec 5)
+
+abbrev pub MunicipalityMissing : Bool → List ℕ → Type 0
+MunicipalityMissing toBePosted rec =
+    InItsTurn rec (formRules toBePosted rec)
+    (at 4 (absentText (addressOf rec .name)) ∷ at 5 (absentCountry (addressOf rec .country) && absentPostcode (addressOf rec .postcode)) ∷ [])
+    (Blank rec 7)

@@ -11,8 +11,9 @@ use Rattle.fields.specs.declared.others.StatusReading.{StatusReading}
 use Rattle.fields.specs.declared.others.StatusReading.the-variants as Status
 use Rattle.fields.specs.Dates.{readDate, readTime}
 use Rattle.fields.specs.Texts.{readText, readMail}
-use Rattle.fields.specs.Numbers.{readPostcode, readTelephone, readSymbol, readCount}
+use Rattle.fields.specs.Numbers.{readTelephone, readSymbol, readCount}
 use Rattle.fields.specs.Others.{readCountry, readEmpty, readStatus, readMain}
+use Rattle.fields.specs.Postcodes.{readPostcode}
 use Rattle.fields.specs.Amounts.{readWeight, readMoney}
 use Rattle.fields.specs.Services.{readServices}
 use Rattle.record.specs.declared.readings.When.{When}
@@ -35,10 +36,11 @@ emptyIn rec n = readEmpty (widthOf n) (fieldOf rec n)
 abbrev pub whenOf : List ℕ → When
 whenOf rec = record { date = readDate (fieldOf rec 2); time = readTime (fieldOf rec 3) }
 
+-- field 5 is judged by field 6
 abbrev pub addressOf : List ℕ → Address
 addressOf rec = record {
   name = textIn rec 4;
-  postcode = readPostcode (fieldOf rec 5);
+  postcode = readPostcode (readCountry (fieldOf rec 6)) (fieldOf rec 5);
   country = readCountry (fieldOf rec 6);
   municipality = textIn rec 7;
 }

@@ -16,6 +16,7 @@ use Rattle.fields.specs.Dates.{malformedDate, malformedTime}
 use Rattle.fields.specs.Texts.{malformedText, absentText}
 use Rattle.fields.specs.Numbers.{malformedNumber, absentNumber, numberIn}
 use Rattle.fields.specs.Others.{malformedCountry, absentCountry, malformedEmpty, malformedMain, absentMain}
+use Rattle.fields.specs.Postcodes.{malformedPostcode, absentPostcode}
 use Rattle.fields.specs.Amounts.{malformedWeight, absentOrZeroWeight, malformedMoney, absentMoney, absentOrZeroMoney}
 use Rattle.fields.specs.Services.{hasCode, malformedServices, servicesIn}
 use Rattle.record.specs.declared.readings.Address.{Address}
@@ -38,7 +39,7 @@ whenFlags w = malformedDate (w .date) ∷ malformedTime (w .time) ∷ []
 
 abbrev pub addressFlags : Address → List Bool
 addressFlags a =
-    malformedText (a .name) ∷ malformedNumber (a .postcode) ∷ malformedCountry (a .country) ∷ malformedText (a .municipality) ∷ []
+    malformedText (a .name) ∷ malformedPostcode (a .postcode) ∷ malformedCountry (a .country) ∷ malformedText (a .municipality) ∷ []
 
 abbrev pub streetFlags : Street → List Bool
 streetFlags s = malformedText (s .district) ∷ malformedText (s .street) ∷ malformedText (s .house) ∷ malformedText (s .orientation) ∷ []
@@ -140,12 +141,12 @@ abbrev pub formRules : Bool → List ℕ → List Rule
 formRules toBePosted rec =
     formOf toBePosted rec (addressOf rec) (contactOf rec) (goodsOf rec) (marksOf rec) (pieceOf rec)
 
--- name blank; domestic with blank postcode, or abroad with a filled one; municipality blank
+-- name blank; domestic with blank postcode; municipality blank
 abbrev pub addressRule : Address → Rule
 addressRule a =
     rule 27
     (at 4 (absentText (a .name))
-    ∷ at 5 (absentCountry (a .country) && absentNumber (a .postcode) || not (absentCountry (a .country)) && not (absentNumber (a .postcode)))
+    ∷ at 5 (absentCountry (a .country) && absentPostcode (a .postcode))
     ∷ at 7 (absentText (a .municipality))
     ∷ [])
 
@@ -180,9 +181,12 @@ serviceRules s f p =
     ∷ [])
     ∷ []
 
+-- the rules behind the address
+abbrev pub laterRules : List ℕ → Contact → Goods → Marks → Piece → List Rule
+laterRules rec c g m p = weightRules (g .weight) (askedIn g .service41) ++ serviceRules (askedIn g) (givenOf c g m) (travelOf rec p)
+
 abbrev pub contentOf : List ℕ → Address → Contact → Goods → Marks → Piece → List Rule
-contentOf rec a c g m p =
-    addressRule a ∷ weightRules (g .weight) (askedIn g .service41) ++ serviceRules (askedIn g) (givenOf c g m) (travelOf rec p)
+contentOf rec a c g m p = addressRule a ∷ laterRules rec c g m p
 
 abbrev pub contentRules : List ℕ → List Rule
 contentRules rec = contentOf rec (addressOf rec) (contactOf rec) (goodsOf rec) (marksOf rec) (pieceOf rec)

@@ -7,6 +7,7 @@ use fields::EmptyReading;
 use fields::MainReading;
 use fields::MoneyReading;
 use fields::NumberReading;
+use fields::PostcodeReading;
 use fields::ServicesReading;
 use fields::StatusReading;
 use fields::TextReading;
@@ -23,7 +24,7 @@ pub struct When {
 // Fields 4 to 7.
 pub struct Address {
     pub name: TextReading,
-    pub postcode: NumberReading,
+    pub postcode: PostcodeReading,
     pub country: CountryReading,
     pub municipality: TextReading,
 }
@@ -83,8 +84,8 @@ pub(crate) fn read_address(rec: &[u8]) -> Address
     ensures { λ r. ⌜ r ≡ addressOf (now (rec .entry)) ⌝ }
 {
     let name = fields::read_text(layout::field(rec, 4), WIDTHS[4 - 1]);
-    let postcode = fields::read_postcode(layout::field(rec, 5));
     let country = fields::read_country(layout::field(rec, 6));
+    let postcode = fields::read_postcode(layout::field(rec, 5), country);
     let municipality = fields::read_text(layout::field(rec, 7), WIDTHS[7 - 1]);
     Address {
         name,

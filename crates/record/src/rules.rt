@@ -204,7 +204,7 @@ pub(crate) fn form_answer(
 
 // ---- 27, 31 and 34: address and weight
 
-// Code 27: name, postcode or municipality, blank or filled where they may not be.
+// Code 27: name or municipality blank, or at home the postcode.
 fn address_answer(a: Address) -> Answer
     ensures { λ r. ⌜ r ≡ verdict (addressRule a ∷ []) ⌝ }
 {
@@ -212,12 +212,11 @@ fn address_answer(a: Address) -> Answer
     let postcode = a.postcode;
     let country = a.country;
     let municipality = a.municipality;
-    let domestic = country.is_absent();
-    let unplaced = postcode.is_absent();
+    let unplaced = country.is_absent() & postcode.is_absent();
     if name.is_absent() {
         return Answer { code: 27, place: 4 };
     }
-    if domestic & unplaced | !domestic & !unplaced {
+    if unplaced {
         return Answer { code: 27, place: 5 };
     }
     if municipality.is_absent() {

@@ -151,7 +151,6 @@ fn read_part(n: u8, f: &[u8]) -> Shown {
     match n {
         2 => of_date(fields::read_date(f)),
         3 => of_time(fields::read_time(f)),
-        5 => of_number(fields::read_postcode(f)),
         6 => of_country(fields::read_country(f)),
         12 => of_number(fields::read_telephone(f)),
         13 => of_text(fields::read_mail(f)),
@@ -168,9 +167,12 @@ fn read_part(n: u8, f: &[u8]) -> Shown {
     }
 }
 
-// The field's number, then the part.
+// The field's number, then the part. A postcode by itself has no reading: the country decides.
 fn answer_reading(item: &[u8], path: &[u8]) -> bool {
     if item.len() < 2 {
+        return broken(path);
+    }
+    if item[1] == 5 {
         return broken(path);
     }
     let read = read_part(item[1], &item[2..]);

@@ -23,14 +23,14 @@ read-text-requires c κs = search needs
 field-requires-2 : tie.Need-field-requires-2
 field-requires-2 c κs = search needs
 
-read-postcode-requires : tie.Need-read-postcode-requires
-read-postcode-requires c κs = search needs
+read-country-requires : tie.Need-read-country-requires
+read-country-requires c κs = search needs
 
 field-requires-3 : tie.Need-field-requires-3
 field-requires-3 c κs = search needs
 
-read-country-requires : tie.Need-read-country-requires
-read-country-requires c κs = search needs
+read-postcode-requires : tie.Need-read-postcode-requires
+read-postcode-requires c κs = search needs
 
 field-requires-4 : tie.Need-field-requires-4
 field-requires-4 c κs = search needs
@@ -60,9 +60,9 @@ read-address-spec =
     array-read-read-text
     read-text-requires
     field-requires-2
-    read-postcode-requires
-    field-requires-3
     read-country-requires
+    field-requires-3
+    read-postcode-requires
     field-requires-4
     sub-read-text-2
     mul-read-text-2

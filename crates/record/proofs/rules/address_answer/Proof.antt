@@ -1,7 +1,7 @@
 -- `record::rules::address_answer` meets its contract.
 -- Assumes nothing.
 use borrow.Author.Needs.{needs}
-use Rattle.record.proofs.Ways.{misplaced, nameless, nowhere, placed}
+use Rattle.record.proofs.Ways.{nameless, nowhere, placed, unplaced}
 use Rattle.record.proofs.rules.address_answer.Statement.{statement}
 use Rattle.record.proofs.rules.address_answer.Tie as tie
 
@@ -18,7 +18,7 @@ returns : tie.Need-returns
 returns c = search nameless
 
 returns-2 : tie.Need-returns-2
-returns-2 c = search misplaced
+returns-2 c = search unplaced
 
 is-absent-requires-4 : tie.Need-is-absent-requires-4
 is-absent-requires-4 c κs = search needs

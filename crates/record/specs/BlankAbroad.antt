@@ -1,0 +1,55 @@
+-- The table as it stood when the postcode was digits everywhere and had to be blank abroad: two of its rows were others. It is here for one statement alone,
+-- that what it accepted is still accepted.
+-- Assumes nothing.
+use Prim.Native.Nat.{ℕ}
+use mathlib.Core.Bool.{Bool, cond, not, _&&_, _||_}
+use mathlib.Core.List.{List, [], _∷_, _++_}
+use lib.ListN.{length}
+use lib.Dec.{eqb}
+use Rattle.text.specs.declared.Answer.{Answer}
+use Rattle.text.specs.Answers.{wrongLength}
+use Rattle.layout.specs.Layout.{widthOf, fieldOf}
+use Rattle.fields.specs.declared.numbers.NumberReading.{NumberReading}
+use Rattle.fields.specs.Texts.{malformedText, absentText}
+use Rattle.fields.specs.Numbers.{readDigits, malformedNumber, absentNumber}
+use Rattle.fields.specs.Others.{readCountry, malformedCountry, absentCountry}
+use Rattle.record.specs.Table.{Rule, at, rule, verdict}
+use Rattle.record.specs.Readings.{textIn, whenOf, streetOf, contactOf, goodsOf, marksOf, pieceOf, tailOf}
+use Rattle.record.specs.Rules.{whenFlags, streetFlags, contactFlags, lateFlags, identifierRule, malformedRule, laterRules}
+
+-- 5: five digits or blank, whatever the country
+abbrev pub digitsIn5 : List ℕ → NumberReading
+digitsIn5 rec = readDigits (widthOf 5) (fieldOf rec 5)
+
+abbrev pub atHome : List ℕ → Bool
+atHome rec = absentCountry (readCountry (fieldOf rec 6))
+
+-- fields 4 to 7
+abbrev pub addressFlagsBlankAbroad : List ℕ → List Bool
+addressFlagsBlankAbroad rec =
+    malformedText (textIn rec 4) ∷ malformedNumber (digitsIn5 rec) ∷ malformedCountry (readCountry (fieldOf rec 6)) ∷ malformedText (textIn rec 7) ∷ []
+
+-- name blank; domestic with blank postcode, or abroad with a filled one; municipality blank
+abbrev pub addressRuleBlankAbroad : List ℕ → Rule
+addressRuleBlankAbroad rec =
+    rule 27
+    (at 4 (absentText (textIn rec 4))
+    ∷ at 5 (atHome rec && absentNumber (digitsIn5 rec) || not (atHome rec) && not (absentNumber (digitsIn5 rec)))
+    ∷ at 7 (absentText (textIn rec 7))
+    ∷ [])
+
+-- fields 2 to 26
+abbrev pub malformedBlankAbroad : Bool → List ℕ → List Bool
+malformedBlankAbroad toBePosted rec =
+    (whenFlags (whenOf rec) ++ (addressFlagsBlankAbroad rec ++ (streetFlags (streetOf rec) ++ contactFlags (contactOf rec))))
+    ++ lateFlags toBePosted (goodsOf rec) (marksOf rec) (pieceOf rec) (tailOf rec)
+
+unfoldable pub tableBlankAbroad : Bool → List ℕ → List Rule
+tableBlankAbroad toBePosted rec =
+    identifierRule rec
+    ∷ malformedRule (malformedBlankAbroad toBePosted rec)
+    ∷ addressRuleBlankAbroad rec
+    ∷ laterRules rec (contactOf rec) (goodsOf rec) (marksOf rec) (pieceOf rec)
+
+unfoldable pub answerBlankAbroad : Bool → List ℕ → Answer
+answerBlankAbroad toBePosted rec = cond (eqb (length rec) 399) (verdict (tableBlankAbroad toBePosted rec)) wrongLength
