@@ -1,5 +1,5 @@
--- The table as it stood when the postcode was digits everywhere and had to be blank abroad: two of its rows were others. It is here for one statement alone,
--- that what it accepted is still accepted.
+-- The table as it stood when the postcode was digits everywhere and had to be blank abroad: two of its rows were others. It is here only to be held beside
+-- today's: what it accepted is still accepted, and only for a filled postcode abroad is an answer another (`proofs/BlankAbroad`).
 -- Assumes nothing.
 use Prim.Native.Nat.{ℕ}
 use mathlib.Core.Bool.{Bool, cond, not, _&&_, _||_}
