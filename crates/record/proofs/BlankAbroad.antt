@@ -28,16 +28,13 @@ use Rattle.fields.proofs.OtherLaws.{country-absent}
 use Rattle.record.specs.Table.{Rule, broken, verdict}
 use Rattle.record.specs.Readings.{textIn, contactOf, goodsOf, marksOf, pieceOf}
 use Rattle.record.specs.Rules.{identifierRule, malformedRule, laterRules, table, recordAnswer}
-use Rattle.record.specs.BlankAbroad.{malformedBlankAbroad, addressRuleBlankAbroad, tableBlankAbroad, answerBlankAbroad}
+use Rattle.record.specs.BlankAbroad.{misplaced, malformedBlankAbroad, addressRuleBlankAbroad, tableBlankAbroad, answerBlankAbroad}
 use Rattle.record.specs.Codes.{lacks}
 use Rattle.record.specs.Outcomes.{noneBroken, Blank}
 use Rattle.record.proofs.Order.{table-accepts}
 use Rattle.record.proofs.Status.{second-kept}
 
 -- ---- at home, and where it is blank, a postcode is judged as it was
-abbrev misplaced : CountryReading → NumberReading → Bool
-misplaced c r = absentCountry c && absentNumber r || not (absentCountry c) && not (absentNumber r)
-
 record JudgedAlike (c : CountryReading) (f : List ℕ) : Type 0 where
   formed : malformedPostcode (readPostcode c f) ≡ malformedNumber (readDigits 5 f)
   placed : (absentCountry c && absentPostcode (readPostcode c f)) ≡ misplaced c (readDigits 5 f)

@@ -10,6 +10,7 @@ use Rattle.text.specs.declared.Answer.{Answer}
 use Rattle.text.specs.Answers.{wrongLength}
 use Rattle.layout.specs.Layout.{widthOf, fieldOf}
 use Rattle.fields.specs.declared.numbers.NumberReading.{NumberReading}
+use Rattle.fields.specs.declared.others.CountryReading.{CountryReading}
 use Rattle.fields.specs.Texts.{malformedText, absentText}
 use Rattle.fields.specs.Numbers.{readDigits, malformedNumber, absentNumber}
 use Rattle.fields.specs.Others.{readCountry, malformedCountry, absentCountry}
@@ -21,20 +22,21 @@ use Rattle.record.specs.Rules.{whenFlags, streetFlags, contactFlags, lat
 abbrev pub digitsIn5 : List ℕ → NumberReading
 digitsIn5 rec = readDigits (widthOf 5) (fieldOf rec 5)
 
-abbrev pub atHome : List ℕ → Bool
-atHome rec = absentCountry (readCountry (fieldOf rec 6))
+-- domestic with blank postcode, or abroad with a filled one
+abbrev pub misplaced : CountryReading → NumberReading → Bool
+misplaced c p = absentCountry c && absentNumber p || not (absentCountry c) && not (absentNumber p)
 
 -- fields 4 to 7
 abbrev pub addressFlagsBlankAbroad : List ℕ → List Bool
 addressFlagsBlankAbroad rec =
     malformedText (textIn rec 4) ∷ malformedNumber (digitsIn5 rec) ∷ malformedCountry (readCountry (fieldOf rec 6)) ∷ malformedText (textIn rec 7) ∷ []
 
--- name blank; domestic with blank postcode, or abroad with a filled one; municipality blank
+-- name blank; postcode misplaced; municipality blank
 abbrev pub addressRuleBlankAbroad : List ℕ → Rule
 addressRuleBlankAbroad rec =
     rule 27
     (at 4 (absentText (textIn rec 4))
-    ∷ at 5 (atHome rec && absentNumber (digitsIn5 rec) || not (atHome rec) && not (absentNumber (digitsIn5 rec)))
+    ∷ at 5 (misplaced (readCountry (fieldOf rec 6)) (digitsIn5 rec))
     ∷ at 7 (absentText (textIn rec 7))
     ∷ [])
 
