@@ -24,8 +24,8 @@ extern "C" {
 /* The version of this header, which CHANGELOG.md follows. The first number changes where a program has to be changed. */
 #define FUGANOREZI_VERSION_MAJOR 1
 #define FUGANOREZI_VERSION_MINOR 4
-#define FUGANOREZI_VERSION_PATCH 0
-#define FUGANOREZI_VERSION "1.4.0"
+#define FUGANOREZI_VERSION_PATCH 1
+#define FUGANOREZI_VERSION "1.4.1"
 
 /* Lengths in bytes, unless another unit is said. */
 enum fuganorezi_lengths {

@@ -2,6 +2,7 @@ pub mod Shapes
 pub mod Sums
 pub mod Ways
 pub mod Writing
+pub mod Comparing
 pub mod Facts
 pub mod SingleDigits
 pub mod RoundTrip

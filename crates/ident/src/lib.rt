@@ -257,8 +257,20 @@ pub fn write(part: &mut [u8], p: Parts) -> Answer
 }
 
 // Whether two identifiers are the same bytes. Everything above compares them here.
+// It looks from the last byte towards the first, eight at a time: those of one consignor begin alike.
 pub fn same(a: &[u8], b: &[u8]) -> bool
     ensures { λ r. ⌜ Compared (now (a .entry)) (now (b .entry)) r ⌝ }
 {
-    text::same(a, b)
+    if a.len() != b.len() {
+        return false;
+    }
+    let mut i = a.len();
+    while 8 < i {
+        i -= 8;
+        if text::word(&a[i..]) != text::word(&b[i..]) {
+            return false;
+        }
+    }
+    // The first eight at once, some of them for the second time, are quicker than those that are left one by one.
+    text::word(a) == text::word(b)
 }
