@@ -82,7 +82,7 @@ static void act(struct batch *b, enum kind kind, size_t place, const uint8_t lin
 static void set_totals(const struct batch *b, fuganorezi_counts *counts)
 {
     uint64_t out[FUGANOREZI_OUT_NUMBERS];
-    if (fuganorezi_file_check(b->file, (size_t)counts->held * GOOD_STEP, out) != 0)
+    if (fuganorezi_file_check(b->file, (size_t)counts->held * GOOD_STEP, good_table, GOOD_ENTRIES, out) != 0)
         give_up("a good file", "was refused");
     counts->live = out[FUGANOREZI_OUT_LIVE];
     counts->cancelled = out[FUGANOREZI_OUT_CANCELLED];
@@ -202,7 +202,8 @@ static void number_for_one_slot(struct full *full)
 
 typedef void work(struct batch *b);
 typedef fuganorezi_outcome batch_add(uint8_t *file, size_t file_length, uint8_t *journal, size_t journal_length,
-                                     fuganorezi_counts counts, const uint8_t *record, size_t length);
+                                     fuganorezi_counts counts, const uint8_t *record, size_t length,
+                                     const uint32_t *table, size_t entries);
 
 static void expect_code(const char *what, uint32_t code, uint32_t expected)
 {
@@ -215,7 +216,7 @@ static void add_again(struct batch *b, batch_add *add)
 {
     take_back_latest(b);
     fuganorezi_outcome added = add(b->file, b->file_length, b->journal, b->journal_length, b->latest.counts_before,
-                                   b->latest.line, RECORD);
+                                   b->latest.line, RECORD, good_table, GOOD_ENTRIES);
     expect_code("an addition", added.code, FUGANOREZI_GOOD);
 }
 
@@ -231,8 +232,8 @@ static void add_by_replay(struct batch *b)
 
 static void add_without_room(struct batch *b, batch_add *add)
 {
-    fuganorezi_outcome refused =
-        add(b->file, b->file_length, b->journal, b->journal_length, b->counts, b->more, RECORD);
+    fuganorezi_outcome refused = add(b->file, b->file_length, b->journal, b->journal_length, b->counts, b->more, RECORD,
+                                     good_table, GOOD_ENTRIES);
     expect_code("an addition without room", refused.code, FUGANOREZI_JOURNAL_FULL);
 }
 
@@ -248,8 +249,8 @@ static void refuse_by_replay(struct batch *b)
 
 static void undo_by_library(struct batch *b)
 {
-    fuganorezi_outcome undone =
-        fuganorezi_batch_undo(b->file, b->file_length, b->journal, b->journal_length, b->counts);
+    fuganorezi_outcome undone = fuganorezi_batch_undo(b->file, b->file_length, b->journal, b->journal_length, b->counts,
+                                                      good_table, GOOD_ENTRIES);
     expect_code("an undo", undone.code, FUGANOREZI_GOOD);
     put_latest(b);
 }
@@ -259,13 +260,17 @@ static void check_file(struct batch *b)
 {
     uint64_t out[FUGANOREZI_OUT_NUMBERS];
     size_t length = (size_t)b->latest.counts_before.held * GOOD_STEP;
-    expect_code("a file check", fuganorezi_file_check(b->file, length, out), FUGANOREZI_GOOD);
+    uint32_t code = fuganorezi_file_check(b->file, length, good_table, GOOD_ENTRIES, out);
+    expect_code("a file check", code, FUGANOREZI_GOOD);
 }
 
 static void check_records(struct batch *b)
 {
-    for (size_t at = 0; at < b->counts.used; at += ENTRY)
-        expect_code("a record check", fuganorezi_record_check(b->journal + at + HEAD, RECORD).code, FUGANOREZI_GOOD);
+    for (size_t at = 0; at < b->counts.used; at += ENTRY) {
+        const uint8_t *record = b->journal + at + HEAD;
+        fuganorezi_answer answer = fuganorezi_record_check(record, RECORD, good_table, GOOD_ENTRIES);
+        expect_code("a record check", answer.code, FUGANOREZI_GOOD);
+    }
 }
 
 /* Times */

@@ -10,60 +10,54 @@
 
 /* Answers */
 
-static void compare(const char *who, unsigned long number, file_check *check, const struct item *item,
-                    const uint64_t expected[NUMBERS])
+static void compare(const char *who, unsigned long number, file_check *check, const struct table *table,
+                    const struct item *item, const uint64_t expected[NUMBERS])
 {
     uint64_t out[NUMBERS];
-    uint32_t code = check(item->bytes, item->length, out);
+    uint32_t code = check(item->bytes, item->length, table->entries, table->count, out);
     expect(who, number, code, expected[0]);
     for (int i = 0; i < NUMBERS; i++)
         expect(who, number, out[i], expected[i]);
 }
 
-static void compare_both(const char *what, unsigned long number, const struct item *item,
+static void compare_both(const char *what, unsigned long number, const struct table *table, const struct item *item,
                          const uint64_t expected[NUMBERS])
 {
     char who[64];
     snprintf(who, sizeof who, "%s: library", what);
-    compare(who, number, fuganorezi_file_check, item, expected);
+    compare(who, number, fuganorezi_file_check, table, item, expected);
     snprintf(who, sizeof who, "%s: C", what);
-    compare(who, number, reference_file_check, item, expected);
+    compare(who, number, reference_file_check, table, item, expected);
 }
 
-static void compare_judged(const char *path, unsigned long number, const struct item *item, const uint64_t *expected)
+static void compare_judged(const char *path, unsigned long number, const struct table *table, const struct item *item,
+                           const uint64_t *expected)
 {
     (void)path;
-    compare_both("judged file", number, item, expected);
+    compare_both("judged file", number, table, item, expected);
 }
 
 static void compare_on_good_file(uint8_t *file, unsigned records)
 {
+    static uint32_t entries[GOOD_ENTRIES];
+    struct table table = {memcpy(entries, good_table, sizeof entries), GOOD_ENTRIES};
     struct item item = {file, (size_t)records * GOOD_STEP};
     struct good_totals totals = good_totals(records);
     const uint64_t expected[NUMBERS] = {0, 0, 0, totals.live, totals.cancelled, totals.cash, totals.price};
-    compare_both("good file", records, &item, expected);
+    compare_both("good file", records, &table, &item, expected);
 }
 
 /* Times */
-
-/* So many calls that one run is long beside the clock's own step. */
-static unsigned long calls_for(const uint8_t *file, unsigned records)
-{
-    const uint64_t long_enough = 1000000;
-    unsigned long calls = 1;
-    while (time_of_calls(reference_file_check, file, records, calls) < long_enough)
-        calls *= 2;
-    return calls;
-}
 
 /* The runs take turns, so that what else the machine does falls on both. */
 static void print_times(const uint8_t *file, unsigned records)
 {
     uint64_t library[RUNS], reference[RUNS];
-    unsigned long calls = calls_for(file, records);
+    const struct asked asked = {file, records, good_table, GOOD_ENTRIES};
+    unsigned long calls = calls_for(reference_file_check, &asked);
     for (int i = 0; i < RUNS; i++) {
-        library[i] = time_of_calls(fuganorezi_file_check, file, records, calls);
-        reference[i] = time_of_calls(reference_file_check, file, records, calls);
+        library[i] = time_of_calls(fuganorezi_file_check, &asked, calls);
+        reference[i] = time_of_calls(reference_file_check, &asked, calls);
     }
     double of_library = median(library, RUNS) / 1000 / (double)calls;
     double of_reference = median(reference, RUNS) / 1000 / (double)calls;
@@ -77,7 +71,7 @@ int main(int count, char **words)
     if (count != 3)
         give_up(words[0], "wants a file of items and one of their lines");
     put_good_file(file, MOST_RECORDS);
-    ask_each(words[1], words[2], NUMBERS, compare_judged);
+    ask_each(words[1], words[2], UNDER_TABLE, NUMBERS, compare_judged);
     for (size_t i = 0; i < sizeof sizes / sizeof sizes[0]; i++)
         compare_on_good_file(file, sizes[i]);
     if (summary("answers of the library and of C") != 0)

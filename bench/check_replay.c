@@ -16,7 +16,8 @@ enum { LONGEST_FILE = FUGANOREZI_FILE_MOST + FUGANOREZI_LINE_LENGTH, LONGEST_JOU
 static struct batch new_batch(size_t file_length, size_t journal_length)
 {
     static uint8_t file[LONGEST_FILE], journal[LONGEST_JOURNAL];
-    struct batch b = {file, journal, file_length, journal_length, {0, 0, 0, 0, 0, 0}, 0, 0};
+    struct batch b = {.file = file, .journal = journal, .file_length = file_length, .journal_length = journal_length,
+                      .table = good_table, .entries = GOOD_ENTRIES};
     if (file_length > LONGEST_FILE || journal_length > LONGEST_JOURNAL)
         give_up("a history", "has longer buffers than are at hand");
     memset(file, 7, file_length);
@@ -43,12 +44,13 @@ static void take(struct batch *b, fuganorezi_outcome outcome)
 /* What the library's answer says of the state. */
 static uint32_t state_code(uint32_t code)
 {
-    return code == FUGANOREZI_BUFFER_LENGTH || code == FUGANOREZI_BATCH_DISAGREES ? code : 0;
+    bool of_state = code == FUGANOREZI_BUFFER_LENGTH || code == FUGANOREZI_WRONG_TABLE || code == FUGANOREZI_BATCH_DISAGREES;
+    return of_state ? code : 0;
 }
 
 static uint32_t ask_state(const struct batch *b)
 {
-    return replay_state_check(b->file, b->file_length, b->journal, b->journal_length, b->counts);
+    return replay_state_check(b->file, b->file_length, b->journal, b->journal_length, b->counts, b->table, b->entries);
 }
 
 static void expect_same(const char *what, unsigned long number, const struct batch *got, const struct batch *expected)
@@ -72,21 +74,35 @@ static void compare_call(const char *path, unsigned long number, struct batch *b
     if (step->op != ADD)
         return;
     take(&copy, replay_batch_add(copy.file, copy.file_length, copy.journal, copy.journal_length, copy.counts,
-                                 step->bytes, step->length));
+                                 step->bytes, step->length, copy.table, copy.entries));
     expect_same(path, number, &copy, b);
+}
+
+/* In the place of the table before. */
+static void set_table(struct batch *b, struct table *held, struct table table)
+{
+    free(held->entries);
+    *held = table;
+    b->table = table.entries;
+    b->entries = table.count;
 }
 
 static void compare_history(const char *path, unsigned long *number, const struct item *item)
 {
     struct batch b = new_batch(history_file_length(item), history_journal_length(item));
+    struct table held = {NULL, 0};
     struct step step;
+    set_table(&b, &held, history_table(item));
     for (size_t at = 0; next_step(item, &at, &step);) {
         ++*number;
-        if (step.op >= SPOIL_FILE)
+        if (step.op == SET_TABLE)
+            set_table(&b, &held, table_in(step.bytes, step.length));
+        else if (step.op >= SPOIL_FILE)
             spoil(&b, step.op, step.bytes);
         else
             compare_call(path, *number, &b, &step);
     }
+    free(held.entries);
 }
 
 static void compare_histories(const char *path)

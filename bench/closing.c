@@ -10,10 +10,11 @@ static uint8_t file[MOST_RECORDS * GOOD_STEP];
 static void print_times(const char *what, unsigned records)
 {
     uint64_t checks[RUNS], closings[RUNS];
+    const struct asked asked = {file, records, good_table, GOOD_ENTRIES};
     unsigned long calls = MOST_RECORDS / records;
     for (int i = 0; i < RUNS; i++) {
-        checks[i] = time_of_calls(fuganorezi_file_check, file, records, calls);
-        closings[i] = time_of_calls(fuganorezi_closing_check, file, records, calls);
+        checks[i] = time_of_calls(fuganorezi_file_check, &asked, calls);
+        closings[i] = time_of_calls(fuganorezi_closing_check, &asked, calls);
     }
     double of_check = median(checks, RUNS) / 1000 / (double)calls;
     double of_closing = median(closings, RUNS) / 1000 / (double)calls;

@@ -34,7 +34,7 @@ enum {
     STEP = 401
 };
 
-enum { MOST_RECORDS = 999 };
+enum { MOST_RECORDS = 999, MOST_ENTRIES = 16000, MOST_POSTCODE = 99999 };
 
 /* Classes of bytes: one bit each, and a table that gives all classes of a byte. */
 enum { DIGIT = 1, CAPITAL = 2, MAIL_BYTE = 4 };
@@ -320,6 +320,45 @@ static inline bool right_status(const uint8_t *field)
     return (field[0] == ' ' || field[0] == '0') && field[1] == ' ';
 }
 
+/* Tables of postcodes */
+
+struct table {
+    const uint32_t *entries;
+    size_t count;
+};
+
+/* No way out halfway: then the compiler takes many entries at once. What rises passes 99999 at its end. */
+static bool right_table(struct table table)
+{
+    uint32_t falls = 0;
+    if (table.count == 0)
+        return true;
+    if (table.count > MOST_ENTRIES)
+        return false;
+    for (size_t i = 1; i < table.count; i++)
+        falls |= table.entries[i - 1] >= table.entries[i];
+    return falls == 0 && table.entries[table.count - 1] <= MOST_POSTCODE;
+}
+
+/* Halves by a choice that needs no branch, which would be guessed wrong every other time. */
+static inline bool in_table(struct table table, uint32_t number)
+{
+    const uint32_t *low = table.entries;
+    for (size_t left = table.count; left > 1; left -= left / 2)
+        low += low[left / 2] <= number ? left / 2 : 0;
+    return table.count != 0 && *low == number;
+}
+
+bool reference_right_table(const uint32_t *table, size_t entries)
+{
+    return right_table((struct table){table, entries});
+}
+
+static inline uint32_t five_digits(const uint8_t *bytes)
+{
+    return two_digits(bytes) * 1000 + two_digits(bytes + 2) * 10 + digit(bytes[4]);
+}
+
 /* Records */
 
 /* What the rules over several fields ask. */
@@ -414,6 +453,12 @@ static inline uint32_t wrong_address(const struct consignment *it)
     return it->municipality == ABSENT ? 7 : 0;
 }
 
+/* 21 and 24: abroad no postcode is looked up. */
+static inline bool unknown_postcode(const uint8_t *record, const struct consignment *it, struct table table)
+{
+    return it->country == ABSENT && !in_table(table, five_digits(record + POSTCODE));
+}
+
 /* Whether the service and the amount that belongs to it disagree. */
 static inline bool wrong_amount(bool service, enum reading field, uint64_t amount)
 {
@@ -473,13 +518,15 @@ static inline uint32_t wrong_pieces(const uint8_t *record, const struct consignm
 }
 
 /* The rules over several fields, in their order. */
-static inline struct answer judge(const uint8_t *record, const struct consignment *it)
+static inline struct answer judge(const uint8_t *record, const struct consignment *it, struct table table)
 {
     uint64_t services = it->services.below_64;
     bool on_delivery = (services & cash_services) != 0;
     uint32_t place = wrong_address(it);
     if (place != 0)
         return (struct answer){27, place};
+    if (unknown_postcode(record, it, table))
+        return (struct answer){(services & SERVICE(41)) != 0 ? 21 : 24, 5};
     if (it->grams == 0)
         return (struct answer){(services & SERVICE(41)) != 0 ? 31 : 34, 15};
     if (wrong_amount(on_delivery, it->cash_field, it->cash))
@@ -500,23 +547,27 @@ static inline struct answer judge(const uint8_t *record, const struct consignmen
 }
 
 /* The whole table for a record of 399 bytes. */
-static struct answer check_record(const uint8_t *record, struct consignment *it)
+static struct answer check_record(const uint8_t *record, struct consignment *it, struct table table)
 {
     uint32_t place;
     if (!right_identifier(record + IDENTIFIER))
         return (struct answer){1, 1};
     if ((place = read_address(record, it)) != 0 || (place = read_posting(record, it)) != 0)
         return (struct answer){210, place};
-    return judge(record, it);
+    return judge(record, it, table);
 }
 
-uint32_t reference_record_check(const uint8_t *bytes, size_t length, uint32_t *place)
+uint32_t reference_record_check(const uint8_t *bytes, size_t length, const uint32_t *table, size_t entries,
+                                uint32_t *place)
 {
     struct consignment it;
+    struct table postcodes = {table, entries};
     *place = 0;
+    if (!right_table(postcodes))
+        return 238;
     if (length != RECORD)
         return 236;
-    struct answer answer = check_record(bytes, &it);
+    struct answer answer = check_record(bytes, &it, postcodes);
     *place = answer.place;
     return answer.code;
 }
@@ -528,10 +579,10 @@ static inline struct answer judge_status(const uint8_t *record, struct answer an
     return earlier || blank(record + STATUS, 2) ? answer : (struct answer){210, 19};
 }
 
-struct reference_posting reference_posting_check(const uint8_t record[399])
+struct reference_posting reference_posting_check(const uint8_t record[399], const uint32_t *table, size_t entries)
 {
     struct consignment it;
-    struct answer answer = judge_status(record, check_record(record, &it));
+    struct answer answer = judge_status(record, check_record(record, &it, (struct table){table, entries}));
     if (answer.code != 0)
         return (struct reference_posting){answer.code, answer.place, 0, 0};
     return (struct reference_posting){0, 0, it.cash, it.price};
@@ -566,13 +617,13 @@ static uint32_t refuse(uint64_t out[OUTS], struct answer answer, size_t number)
     return answer.code;
 }
 
-static inline struct answer check_in_file(const uint8_t *file, size_t number, struct slots *seen,
+static inline struct answer check_in_file(const uint8_t *file, size_t number, struct table table, struct slots *seen,
                                           struct consignment *it)
 {
     const uint8_t *record = file + (number - 1) * STEP;
     if (record[RECORD] != 0x0d || record[RECORD + 1] != 0x0a)
         return (struct answer){212, 0};
-    struct answer answer = check_record(record, it);
+    struct answer answer = check_record(record, it, table);
     if (answer.code == 0 && seen_before(seen, file, number))
         return (struct answer){2, 1};
     return answer;
@@ -589,11 +640,15 @@ static inline void add_to_totals(uint64_t out[OUTS], const struct consignment *i
     out[OUT_PRICE] += it->price;
 }
 
-uint32_t reference_file_check(const uint8_t *bytes, size_t length, uint64_t out[7])
+uint32_t reference_file_check(const uint8_t *bytes, size_t length, const uint32_t *table, size_t entries,
+                              uint64_t out[7])
 {
     struct slots seen;
     struct consignment it;
+    struct table postcodes = {table, entries};
     size_t records = length / STEP;
+    if (!right_table(postcodes))
+        return refuse(out, (struct answer){238, 0}, 0);
     if (length % STEP != 0)
         return refuse(out, (struct answer){211, 0}, 0);
     if (records > MOST_RECORDS)
@@ -601,7 +656,7 @@ uint32_t reference_file_check(const uint8_t *bytes, size_t length, uint64_t out[
     memset(out, 0, OUTS * sizeof out[0]);
     clear_slots(&seen, records);
     for (size_t number = 1; number <= records; number++) {
-        struct answer answer = check_in_file(bytes, number, &seen, &it);
+        struct answer answer = check_in_file(bytes, number, postcodes, &seen, &it);
         if (answer.code != 0)
             return refuse(out, answer, number);
         add_to_totals(out, &it);

@@ -25,17 +25,21 @@ struct place {
     bool cancelled;
 };
 
-/* All of them, in the file's order, and their numbers by identifier. */
+/* All of them, in the file's order, and their numbers by identifier; and the postcodes that records may have. */
 struct places {
     size_t held, most;
+    const uint32_t *table;
+    size_t entries;
     struct slots slots;
     struct place all[FUGANOREZI_MOST_RECORDS];
 };
 
-static void clear_places(struct places *places, size_t most)
+static void clear_places(struct places *places, size_t most, const uint32_t *table, size_t entries)
 {
     places->held = 0;
     places->most = most;
+    places->table = table;
+    places->entries = entries;
     clear_slots(&places->slots, most);
 }
 
@@ -61,9 +65,9 @@ static inline struct place *live_place(struct places *places, const uint8_t *ide
 
 /* Entries: each gives whether it is acceptable in its turn. */
 
-static inline bool put_record(struct place *place, const uint8_t *record)
+static inline bool put_record(const struct places *places, struct place *place, const uint8_t *record)
 {
-    struct reference_posting posting = reference_posting_check(record);
+    struct reference_posting posting = reference_posting_check(record, places->table, places->entries);
     *place = (struct place){record, posting.cash, posting.price, false};
     return posting.code == 0;
 }
@@ -74,13 +78,13 @@ static inline bool replay_addition(struct places *places, const uint8_t *record)
     if (*slot != 0 || places->held == places->most)
         return false;
     *slot = (uint16_t)++places->held;
-    return put_record(&places->all[*slot - 1], record);
+    return put_record(places, &places->all[*slot - 1], record);
 }
 
 static inline bool replay_amendment(struct places *places, const uint8_t *record)
 {
     struct place *place = live_place(places, record);
-    return place != NULL && put_record(place, record);
+    return place != NULL && put_record(places, place, record);
 }
 
 static inline bool replay_cancellation(struct places *places, const uint8_t *identifier)
@@ -178,14 +182,17 @@ static bool right_lengths(size_t file_length, size_t journal_length)
 }
 
 static uint32_t check_state(struct places *places, const uint8_t *file, size_t file_length, const uint8_t *journal,
-                            size_t journal_length, const fuganorezi_counts *counts)
+                            size_t journal_length, const fuganorezi_counts *counts, const uint32_t *table,
+                            size_t entries)
 {
     if (!right_lengths(file_length, journal_length))
         return FUGANOREZI_BUFFER_LENGTH;
+    if (!reference_right_table(table, entries))
+        return FUGANOREZI_WRONG_TABLE;
     if (counts->held > file_length / STEP || counts->used > journal_length)
         return FUGANOREZI_BATCH_DISAGREES;
     size_t held = counts->held, used = counts->used;
-    clear_places(places, held);
+    clear_places(places, held, table, entries);
     bool right = replay_journal(places, journal, used) && places->held == held && right_lines(places, file) &&
                  right_totals(places, counts) && all_zeros(file + held * STEP, file_length - held * STEP) &&
                  all_zeros(journal + used, journal_length - used);
@@ -193,10 +200,10 @@ static uint32_t check_state(struct places *places, const uint8_t *file, size_t f
 }
 
 uint32_t replay_state_check(const uint8_t *file, size_t file_length, const uint8_t *journal, size_t journal_length,
-                            fuganorezi_counts counts)
+                            fuganorezi_counts counts, const uint32_t *table, size_t entries)
 {
     struct places places;
-    return check_state(&places, file, file_length, journal, journal_length, &counts);
+    return check_state(&places, file, file_length, journal, journal_length, &counts, table, entries);
 }
 
 /* An addition */
@@ -229,15 +236,16 @@ static fuganorezi_outcome refused(uint32_t code, uint32_t place, fuganorezi_coun
 }
 
 fuganorezi_outcome replay_batch_add(uint8_t *file, size_t file_length, uint8_t *journal, size_t journal_length,
-                                    fuganorezi_counts counts, const uint8_t *record, size_t length)
+                                    fuganorezi_counts counts, const uint8_t *record, size_t length,
+                                    const uint32_t *table, size_t entries)
 {
     struct places places;
-    uint32_t code = check_state(&places, file, file_length, journal, journal_length, &counts);
+    uint32_t code = check_state(&places, file, file_length, journal, journal_length, &counts, table, entries);
     if (code != 0)
         return refused(code, 0, counts);
     if (length != RECORD)
         return refused(FUGANOREZI_WRONG_LENGTH, 0, counts);
-    struct reference_posting posting = reference_posting_check(record);
+    struct reference_posting posting = reference_posting_check(record, table, entries);
     if (posting.code != 0)
         return refused(posting.code, posting.place, counts);
     if (*slot_of(&places, record) != 0)

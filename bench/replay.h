@@ -7,12 +7,13 @@
 
 #include "fuganorezi.h" /* for the types alone */
 
-/* What each call but opening looks at first: 235, 237 or, where the batch may be worked on, 0. */
+/* What each call but opening looks at first: 235, 238, 237 or, where the batch may be worked on, 0. */
 uint32_t replay_state_check(const uint8_t *file, size_t file_length, const uint8_t *journal, size_t journal_length,
-                            fuganorezi_counts counts);
+                            fuganorezi_counts counts, const uint32_t *table, size_t entries);
 
 /* As fuganorezi_batch_add. */
 fuganorezi_outcome replay_batch_add(uint8_t *file, size_t file_length, uint8_t *journal, size_t journal_length,
-                                    fuganorezi_counts counts, const uint8_t *record, size_t length);
+                                    fuganorezi_counts counts, const uint8_t *record, size_t length,
+                                    const uint32_t *table, size_t entries);
 
 #endif

@@ -2,9 +2,9 @@
  * Fuganorezi for C: checks of postal consignments, writers for what has one right writing, and an
  * open batch of consignments, in the archive libfuganorezi.a (x86-64).
  *
- * Bytes are lent for the call: nothing is kept or freed, nothing is changed but what is said
- * to be, and no byte at or past its length is touched. Bytes may be NULL only where their
- * length is 0. No call fails, waits or uses memory of its own beyond the stack.
+ * Bytes and tables are lent for the call: nothing is kept or freed, nothing is changed but what is
+ * said to be, and no byte or entry at or past its length is touched. They may be NULL only where
+ * their length is 0. No call fails, waits or uses memory of its own beyond the stack.
  *
  * Threads: every call is reentrant. There is no state behind the calls, and no lock: any threads
  * may call at the same time, as long as nobody changes what is lent to a call until it returns.
@@ -22,10 +22,10 @@ extern "C" {
 #endif
 
 /* The version of this header, which CHANGELOG.md follows. The first number changes where a program has to be changed. */
-#define FUGANOREZI_VERSION_MAJOR 1
-#define FUGANOREZI_VERSION_MINOR 4
-#define FUGANOREZI_VERSION_PATCH 1
-#define FUGANOREZI_VERSION "1.4.1"
+#define FUGANOREZI_VERSION_MAJOR 2
+#define FUGANOREZI_VERSION_MINOR 0
+#define FUGANOREZI_VERSION_PATCH 0
+#define FUGANOREZI_VERSION "2.0.0"
 
 /* Lengths in bytes, unless another unit is said. */
 enum fuganorezi_lengths {
@@ -41,12 +41,19 @@ enum fuganorezi_lengths {
     FUGANOREZI_JOURNAL_LEAST = 403,
     FUGANOREZI_JOURNAL_MOST = 1048576,
     FUGANOREZI_RECORD_ENTRY = 403,     /* what an addition or an amendment takes in the journal */
-    FUGANOREZI_IDENTIFIER_ENTRY = 17   /* and what a cancellation does */
+    FUGANOREZI_IDENTIFIER_ENTRY = 17,  /* and what a cancellation does */
+
+    /* the table of postcodes */
+    FUGANOREZI_TABLE_MOST = 16000,     /* entries */
+    FUGANOREZI_TABLE_TEXT_MOST = 96000 /* of its text */
 };
 
 /* The highest amount that fields 16 and 17 can hold, in haléře, and the highest weight of field 15, in grams. */
 #define FUGANOREZI_AMOUNT_MOST UINT64_C(99999999999)
 #define FUGANOREZI_WEIGHT_MOST UINT64_C(99999)
+
+/* The highest postcode that a table may have. */
+#define FUGANOREZI_POSTCODE_MOST UINT32_C(99999)
 
 /* A field by its number: where it starts in the record, counted from 0, and its width. */
 enum fuganorezi_layout {
@@ -84,6 +91,8 @@ enum fuganorezi_code {
     FUGANOREZI_WRONG_IDENTIFIER = 1,
     FUGANOREZI_IDENTIFIER_TWICE = 2,
     FUGANOREZI_SYMBOL_MISSING = 11,
+    FUGANOREZI_POSTCODE_UNKNOWN_41 = 21,
+    FUGANOREZI_POSTCODE_UNKNOWN = 24,
     FUGANOREZI_ADDRESS_INCOMPLETE = 27,
     FUGANOREZI_WEIGHT_MISSING_41 = 31,
     FUGANOREZI_WEIGHT_MISSING = 34,
@@ -105,6 +114,7 @@ enum fuganorezi_code {
     FUGANOREZI_BUFFER_LENGTH = 235,
     FUGANOREZI_WRONG_LENGTH = 236,
     FUGANOREZI_BATCH_DISAGREES = 237,
+    FUGANOREZI_WRONG_TABLE = 238,
     FUGANOREZI_SET_NOT_WHOLE = 240
 };
 
@@ -140,16 +150,45 @@ typedef struct fuganorezi_answer {
 } fuganorezi_answer;
 
 /*
+ * The table of postcodes that exist: each call that sees a whole record takes it, and a domestic
+ * postcode has to be in it. Its entries are numbers, so 00100 is 100. Each is above the one before
+ * it, none is above 99999, and there are at most 16,000. Of any other table the calls say 238. None
+ * at all, for which the pointer may be NULL, is a right table, in which no postcode is.
+ *
+ * Each call looks once through the whole table before it looks up postcodes in it.
+ */
+
+/* What reading the text of a table answers, by value. */
+typedef struct fuganorezi_table {
+    uint32_t code;
+    uint32_t place;   /* 0 */
+    uint64_t entries; /* how many were read; 0 if refused */
+} fuganorezi_table;
+
+/*
+ * Reads the text of a table, five digits and a line feed for each entry, to the front of the lent
+ * table. No text is the table without entries. Accepted: code 0. The lines are now the first
+ * entries, and those behind them are as they were. Refused: all entries are as they were.
+ *
+ * 238 (0)  the text is otherwise written, does not rise or has more than 16,000 lines.
+ * 236 (0)  the lent table has fewer entries than the text has lines.
+ *
+ * Text and table share no memory.
+ */
+fuganorezi_table fuganorezi_table_read(const uint8_t *text, size_t length, uint32_t *table, size_t entries);
+
+/*
  * Whether these bytes are a good record, 399 of them without line end.
  *
+ * 238 (0)  the table of postcodes is wrong.
  * 236 (0)  there are not 399 bytes.
  *   1 to 72  as in the list of the file check, from 1 down to 72 and with the same places.
  *
  * As it may stand in a file, live or cancelled; or, as a batch takes it, to be posted: there a
  * status that is not blank is malformed, 210 (19).
  */
-fuganorezi_answer fuganorezi_record_check(const uint8_t *bytes, size_t length);
-fuganorezi_answer fuganorezi_record_check_posting(const uint8_t *bytes, size_t length);
+fuganorezi_answer fuganorezi_record_check(const uint8_t *bytes, size_t length, const uint32_t *table, size_t entries);
+fuganorezi_answer fuganorezi_record_check_posting(const uint8_t *bytes, size_t length, const uint32_t *table, size_t entries);
 
 /*
  * What an identifier says.
@@ -187,10 +226,11 @@ fuganorezi_answer fuganorezi_weight_write(uint8_t *bytes, size_t length, uint64_
  * line end (0Dh 0Ah). No bytes are a good file of no records.
  *
  * The result is the code. Each call sets all seven numbers of `out`, which is not NULL and
- * shares no memory with `bytes`:
+ * shares no memory with `bytes` and `table`:
  *
  * out[0]: the code: 0 if the file is good, else that of the first rule that is broken.
- * out[1]: the record that breaks it, counted from 1; 0 if it is the file as a whole (211, 213).
+ * out[1]: the record that breaks it, counted from 1; 0 if it is the table (238) or the file as a
+ *         whole (211, 213).
  * out[2]: the place: the number, 1 to 26, of the field that the code speaks of; 0 if it speaks of
  *         no field.
  *
@@ -204,6 +244,7 @@ fuganorezi_answer fuganorezi_weight_write(uint8_t *bytes, size_t length, uint64_
  * The codes, in the order in which they are looked for; from 212 on this is done for each record
  * in its turn. Places are in parentheses.
  *
+ * 238 (0)  the table of postcodes is wrong.
  * 211 (0)  the length is not a multiple of 401.
  * 213 (0)  the file has more than 999 records.
  * 212 (0)  the record's line end is wrong.
@@ -212,6 +253,8 @@ fuganorezi_answer fuganorezi_weight_write(uint8_t *bytes, size_t length, uint64_
  *          country is blank, and else text, or blank.
  *  27      the name is blank (4); the postcode is blank and the address domestic (5); the
  *          municipality is blank (7).
+ *  21 (5)  the address is domestic and its postcode not in the table, with service 41.
+ *  24 (5)  likewise, without service 41.
  *  31 (15) the weight is blank or zero, with service 41.
  *  34 (15) the weight is blank or zero, without service 41.
  *  36 (16) with service 2, 4, 5 or 41 the cash on delivery is blank or zero; or without them it is
@@ -228,7 +271,7 @@ fuganorezi_answer fuganorezi_weight_write(uint8_t *bytes, size_t length, uint64_
  *          is filled (22, 23, 24).
  *   2 (1)  an earlier record, cancelled or not, has the same identifier.
  */
-uint32_t fuganorezi_file_check(const uint8_t *bytes, size_t length, uint64_t out[7]);
+uint32_t fuganorezi_file_check(const uint8_t *bytes, size_t length, const uint32_t *table, size_t entries, uint64_t out[7]);
 
 /*
  * Whether these bytes are a K file that may be closed: a good one, as above, in which every set
@@ -244,7 +287,7 @@ uint32_t fuganorezi_file_check(const uint8_t *bytes, size_t length, uint64_t out
  *          place is found over that whole set: its pieces give different numbers of pieces (24),
  *          else a serial is there twice (23), else one is missing (22).
  */
-uint32_t fuganorezi_closing_check(const uint8_t *bytes, size_t length, uint64_t out[7]);
+uint32_t fuganorezi_closing_check(const uint8_t *bytes, size_t length, const uint32_t *table, size_t entries, uint64_t out[7]);
 
 /*
  * The open batch: consignments are added, amended and cancelled, and each of these actions can
@@ -262,6 +305,10 @@ uint32_t fuganorezi_closing_check(const uint8_t *bytes, size_t length, uint64_t 
  *
  * The counts go in to each call but opening, and the next ones come out with its answer. They too
  * are kept as they are.
+ *
+ * The table of postcodes goes in to each call but opening, and is the same in all of them. Each call
+ * judges the journal's entries anew by the table that it is given, so with another one a batch may
+ * be refused: 237, where a domestic postcode of some entry is not in it.
  */
 typedef struct fuganorezi_counts {
     uint64_t live;      /* live consignments */
@@ -288,7 +335,7 @@ typedef struct fuganorezi_outcome {
 } fuganorezi_outcome;
 
 /*
- * The two buffers and the record or identifier share no memory with each other.
+ * The two buffers share no memory with each other, nor with the record, the identifier or the table.
  *
  * Each call but opening first goes once through the whole journal, checks each entry and compares
  * with the file, so it takes the longer the more the journal has. It needs less than 64 KiB of stack
@@ -297,6 +344,7 @@ typedef struct fuganorezi_outcome {
  * The codes, in the order in which they are looked for. The place is 0 where none is given.
  *
  * 235      a buffer has none of the lengths above (all calls).
+ * 238      the table of postcodes is wrong (all calls but opening).
  * 237      file, journal and counts are not what the journal's entries make from an opening, each
  *          acceptable in its turn (all calls but opening).
  * 236      the record has not 399 bytes (add, amend), the identifier not 13 (cancel).
@@ -316,19 +364,22 @@ fuganorezi_outcome fuganorezi_batch_open(uint8_t *file, size_t file_length, uint
 
 /* Puts a record, 399 bytes without line end, behind the last. */
 fuganorezi_outcome fuganorezi_batch_add(uint8_t *file, size_t file_length, uint8_t *journal, size_t journal_length,
-                                        fuganorezi_counts counts, const uint8_t *record, size_t length);
+                                        fuganorezi_counts counts, const uint8_t *record, size_t length,
+                                        const uint32_t *table, size_t entries);
 
 /* Puts a record in the place of the one with the same identifier. */
 fuganorezi_outcome fuganorezi_batch_amend(uint8_t *file, size_t file_length, uint8_t *journal, size_t journal_length,
-                                          fuganorezi_counts counts, const uint8_t *record, size_t length);
+                                          fuganorezi_counts counts, const uint8_t *record, size_t length,
+                                          const uint32_t *table, size_t entries);
 
 /* Sets the status of the record with this identifier to cancelled. */
 fuganorezi_outcome fuganorezi_batch_cancel(uint8_t *file, size_t file_length, uint8_t *journal, size_t journal_length,
-                                           fuganorezi_counts counts, const uint8_t *identifier, size_t length);
+                                           fuganorezi_counts counts, const uint8_t *identifier, size_t length,
+                                           const uint32_t *table, size_t entries);
 
 /* Takes back the latest action that stands, with its entry; what it freed serves the next. */
 fuganorezi_outcome fuganorezi_batch_undo(uint8_t *file, size_t file_length, uint8_t *journal, size_t journal_length,
-                                         fuganorezi_counts counts);
+                                         fuganorezi_counts counts, const uint32_t *table, size_t entries);
 
 #ifdef __cplusplus
 }

@@ -64,6 +64,7 @@ static inline const fuganorezi_rule *fuganorezi_rule_for(uint64_t code, uint64_t
 {
     static const fuganorezi_rule rules[] = {
         /* A file, in the order in which rules are looked at */
+        {FUGANOREZI_WRONG_TABLE, 0, "no right table of postcodes: at most 16,000 numbers, each above the one before it and none above 99999; as text, five digits and a line feed for each"},
         {FUGANOREZI_FILE_LENGTH, 0, "its length is not a multiple of 401 bytes (399 of the record, carriage return, line feed)"},
         {FUGANOREZI_TOO_MANY_RECORDS, 0, "it has more than 999 records"},
         /* Each record of a file in its turn */
@@ -73,6 +74,8 @@ static inline const fuganorezi_rule *fuganorezi_rule_for(uint64_t code, uint64_t
         {FUGANOREZI_ADDRESS_INCOMPLETE, 4, "blank, and each consignment needs it"},
         {FUGANOREZI_ADDRESS_INCOMPLETE, 5, "blank, and a domestic consignment needs it"},
         {FUGANOREZI_ADDRESS_INCOMPLETE, 7, "blank, and each consignment needs it"},
+        {FUGANOREZI_POSTCODE_UNKNOWN_41, 5, "not in the table of postcodes, and a domestic consignment under service 41 needs one that is"},
+        {FUGANOREZI_POSTCODE_UNKNOWN, 5, "not in the table of postcodes, and a domestic consignment needs one that is"},
         {FUGANOREZI_WEIGHT_MISSING_41, 15, "blank or zero under service 41, and each consignment needs a weight"},
         {FUGANOREZI_WEIGHT_MISSING, 15, "blank or zero, and each consignment needs a weight"},
         {FUGANOREZI_CASH_DISAGREES, 16, "services 2, 4, 5 and 41 need an amount above zero, and without them it must be blank"},

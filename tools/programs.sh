@@ -167,6 +167,8 @@ kit_tools() {
         rt=$(command -v rt) || return
         kit=$(dirname "$(dirname "$(readlink -f "$rt")")")
     fi
+    # a program may be run in another folder than this one
+    case $kit in /*) ;; *) kit=$PWD/$kit ;; esac
     kit=$kit/on/$(uname -m)/toolchain
     [ -r "$kit/lib/ld-linux-x86-64.so.2" ] && echo "$kit"
 }

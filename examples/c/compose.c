@@ -32,6 +32,10 @@ static const struct consignment consignments[] = {
     {3, "Kr\xa0lov\xa0 Eva", "30100", "Plze\xe5", "Pra\xa7sk\xa0", "30", "", "", 0, 0, 0},
 };
 
+/* The postcodes that exist, as far as these consignments need them. Every call on the batch is given the same. */
+static const uint32_t postcodes[] = {11000, 30100, 60200};
+enum { POSTCODES = sizeof postcodes / sizeof postcodes[0] };
+
 /* A batch of up to ten records, with room in the journal for as many actions. */
 static uint8_t file[10 * FUGANOREZI_LINE_LENGTH], journal[10 * FUGANOREZI_RECORD_ENTRY];
 
@@ -95,7 +99,8 @@ static fuganorezi_outcome add(fuganorezi_counts counts, const struct consignment
 {
     uint8_t record[FUGANOREZI_RECORD_LENGTH];
     compose(record, c);
-    fuganorezi_outcome outcome = fuganorezi_batch_add(file, sizeof file, journal, sizeof journal, counts, record, sizeof record);
+    fuganorezi_outcome outcome = fuganorezi_batch_add(file, sizeof file, journal, sizeof journal, counts, record,
+                                                      sizeof record, postcodes, POSTCODES);
     if (outcome.code != FUGANOREZI_GOOD)
         print_refusal("added", c->posting, outcome);
     return outcome;
@@ -105,8 +110,8 @@ static fuganorezi_outcome cancel(fuganorezi_counts counts, uint64_t posting)
 {
     uint8_t identifier[FUGANOREZI_IDENTIFIER_LENGTH] = {0};
     put_identifier(identifier, posting);
-    fuganorezi_outcome outcome =
-        fuganorezi_batch_cancel(file, sizeof file, journal, sizeof journal, counts, identifier, sizeof identifier);
+    fuganorezi_outcome outcome = fuganorezi_batch_cancel(file, sizeof file, journal, sizeof journal, counts, identifier,
+                                                         sizeof identifier, postcodes, POSTCODES);
     if (outcome.code != FUGANOREZI_GOOD)
         print_refusal("cancelled", posting, outcome);
     return outcome;
@@ -123,7 +128,7 @@ int main(void)
     }
     now = cancel(now.counts, 1);
     now = cancel(now.counts, 2);
-    now = fuganorezi_batch_undo(file, sizeof file, journal, sizeof journal, now.counts);
+    now = fuganorezi_batch_undo(file, sizeof file, journal, sizeof journal, now.counts, postcodes, POSTCODES);
     size_t written = fwrite(file, FUGANOREZI_LINE_LENGTH, now.counts.held, stdout);
     return written == now.counts.held && fflush(stdout) == 0 ? status : CANNOT_GO_ON;
 }

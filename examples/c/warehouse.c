@@ -5,9 +5,10 @@
  *
  *     cc -std=c11 -O2 -Iinclude -o warehouse examples/c/warehouse.c target/staticlib/libfuganorezi.a
  *
- * Use: warehouse [--closing] FILE
+ * Use: warehouse [--closing] TABLE FILE
+ * TABLE has the postcodes that exist, as psc.txt has them: five digits and a line feed a line, rising.
  * With --closing it also looks whether the sets that travel together are whole.
- * Status 0: the file is good. 1: it is wrong. 2: it cannot be read.
+ * Status 0: FILE is good. 1: it or TABLE is wrong. 2: one of them cannot be read.
  */
 #include "fuganorezi_words.h"
 
@@ -21,9 +22,13 @@
 enum { FILE_IS_GOOD = 0, FILE_IS_WRONG = 1, CANNOT_BE_READ = 2 };
 
 /* The file check or the closing check. */
-typedef uint32_t file_check(const uint8_t *bytes, size_t length, uint64_t out[FUGANOREZI_OUT_NUMBERS]);
+typedef uint32_t file_check(const uint8_t *bytes, size_t length, const uint32_t *table, size_t entries,
+                            uint64_t out[FUGANOREZI_OUT_NUMBERS]);
 
-/* The whole file, which the caller frees; NULL, with errno set, if it cannot be read. */
+/* The postcodes that exist. */
+static uint32_t table[FUGANOREZI_TABLE_MOST];
+
+/* All that is there, which the caller frees; NULL, with errno set, if it cannot be read. */
 static uint8_t *read_all(FILE *from, size_t *length)
 {
     size_t room = 1 << 16;
@@ -46,16 +51,31 @@ static uint8_t *read_all(FILE *from, size_t *length)
     return bytes;
 }
 
+/* A whole file, which the caller frees. Where it cannot be read, the program ends. */
 static uint8_t *read_file(const char *path, size_t *length)
 {
     FILE *file = fopen(path, "rb");
-    if (file == NULL)
-        return NULL;
-    uint8_t *bytes = read_all(file, length);
-    int why = errno;
+    uint8_t *bytes = file == NULL ? NULL : read_all(file, length);
+    if (bytes == NULL) {
+        fprintf(stderr, "%s: cannot be read: %s\n", path, strerror(errno));
+        exit(CANNOT_BE_READ);
+    }
     fclose(file);
-    errno = why;
     return bytes;
+}
+
+/* Sets `table`, and gives how many entries it has. Where the file has no table, the program ends. */
+static size_t read_table(const char *path)
+{
+    size_t length;
+    uint8_t *text = read_file(path, &length);
+    fuganorezi_table read = fuganorezi_table_read(text, length, table, FUGANOREZI_TABLE_MOST);
+    free(text);
+    if (read.code != FUGANOREZI_GOOD) {
+        printf("%s: %s [code %" PRIu32 "]\n", path, fuganorezi_words(read.code, read.place), read.code);
+        exit(FILE_IS_WRONG);
+    }
+    return read.entries;
 }
 
 /* A record by its number and, if its identifier is right and so fit to be printed, by that too. */
@@ -109,32 +129,27 @@ static void print_totals(const char *path, const uint64_t *numbers)
     print_crowns("price specified ", numbers[FUGANOREZI_OUT_PRICE]);
 }
 
-static int check(file_check *call, const char *path, const uint8_t *bytes, size_t length)
+static int check(file_check *call, size_t entries, const char *path)
 {
     uint64_t numbers[FUGANOREZI_OUT_NUMBERS];
-    if (call(bytes, length, numbers) != FUGANOREZI_GOOD) {
+    size_t length;
+    uint8_t *bytes = read_file(path, &length);
+    bool good = call(bytes, length, table, entries, numbers) == FUGANOREZI_GOOD;
+    if (good)
+        print_totals(path, numbers);
+    else
         print_what_is_wrong(path, bytes, numbers);
-        return FILE_IS_WRONG;
-    }
-    print_totals(path, numbers);
-    return FILE_IS_GOOD;
+    free(bytes);
+    return good ? FILE_IS_GOOD : FILE_IS_WRONG;
 }
 
 int main(int count, char **words)
 {
-    size_t length;
-    bool closing = count == 3 && strcmp(words[1], "--closing") == 0;
-    if (count != 2 && !closing) {
-        fprintf(stderr, "usage: %s [--closing] FILE\n", count > 0 ? words[0] : "warehouse");
+    bool closing = count == 4 && strcmp(words[1], "--closing") == 0;
+    if (count != 3 && !closing) {
+        fprintf(stderr, "usage: %s [--closing] TABLE FILE\n", count > 0 ? words[0] : "warehouse");
         return CANNOT_BE_READ;
     }
-    const char *path = words[count - 1];
-    uint8_t *bytes = read_file(path, &length);
-    if (bytes == NULL) {
-        fprintf(stderr, "%s: cannot be read: %s\n", path, strerror(errno));
-        return CANNOT_BE_READ;
-    }
-    int status = check(closing ? fuganorezi_closing_check : fuganorezi_file_check, path, bytes, length);
-    free(bytes);
-    return status;
+    size_t entries = read_table(words[count - 2]);
+    return check(closing ? fuganorezi_closing_check : fuganorezi_file_check, entries, words[count - 1]);
 }

@@ -1,6 +1,6 @@
 /*
- * What the tests of the file check and of the closing check share. The bytes asked about always end where memory that
- * cannot be read begins, and cannot be written during the call.
+ * What the tests of the file check and of the closing check share. The bytes asked about and the table always end where
+ * memory that cannot be read begins, and cannot be written during the call.
  */
 #ifndef ASKING_H
 #define ASKING_H
@@ -8,10 +8,12 @@
 #include "fenced.h"
 #include "fuganorezi.h"
 #include "good_file.h"
+#include "tables.h"
 
 enum { MOST_RECORDS = FUGANOREZI_MOST_RECORDS, NUMBERS = FUGANOREZI_OUT_NUMBERS };
 
-typedef uint32_t file_check(const uint8_t *bytes, size_t length, uint64_t out[NUMBERS]);
+typedef uint32_t file_check(const uint8_t *bytes, size_t length, const uint32_t *table, size_t entries,
+                            uint64_t out[NUMBERS]);
 
 /* The call that is asked. */
 static file_check *check;
@@ -23,6 +25,7 @@ static inline void start(file_check *call)
 {
     check = call;
     memory = fenced_memory((size_t)(MOST_RECORDS + 1) * GOOD_STEP + 1);
+    lend_table(good_table, GOOD_ENTRIES);
 }
 
 static inline void expect_numbers(const char *what, unsigned long number, uint32_t code, const uint64_t out[NUMBERS],
@@ -42,7 +45,7 @@ static inline void ask(const char *what, unsigned long number, const uint8_t *by
     for (int i = 0; i < NUMBERS + 2; i++)
         around[i] = untouched;
     protect(memory, PROT_READ);
-    uint32_t code = check(there, length, around + 1);
+    uint32_t code = check(there, length, lent.entries, lent.count, around + 1);
     protect(memory, PROT_READ | PROT_WRITE);
     expect_numbers(what, number, code, around + 1, expected);
     expect(what, number, around[0], untouched);
@@ -60,8 +63,61 @@ static inline void ask_no_bytes(void)
 {
     const uint64_t zeros[NUMBERS] = {0};
     uint64_t out[NUMBERS] = {1, 1, 1, 1, 1, 1, 1};
-    uint32_t code = check(NULL, 0, out);
+    uint32_t code = check(NULL, 0, NULL, 0, out);
     expect_numbers("NULL", 0, code, out, zeros);
+}
+
+/* ---- tables */
+
+/* A wrong table is told of first, whatever the bytes are. */
+static inline void ask_under_wrong_table(const char *what)
+{
+    static uint8_t file[(MOST_RECORDS + 1) * GOOD_STEP];
+    put_good_file(file, MOST_RECORDS + 1);
+    ask_refused(what, file, GOOD_STEP, FUGANOREZI_WRONG_TABLE, 0, 0);
+    ask_refused(what, file, 0, FUGANOREZI_WRONG_TABLE, 0, 0);
+    ask_refused(what, file, GOOD_STEP - 1, FUGANOREZI_WRONG_TABLE, 0, 0);
+    ask_refused(what, file, sizeof file, FUGANOREZI_WRONG_TABLE, 0, 0);
+    file[GOOD_STEP - 1] = ' ';
+    ask_refused(what, file, GOOD_STEP, FUGANOREZI_WRONG_TABLE, 0, 0);
+}
+
+/* In the second record of a file whose first goes abroad, without service 41 and with it. */
+static inline void ask_postcode(const char *what, uint32_t postcode, bool there)
+{
+    static const enum good_kind kinds[] = {GOOD_PLAIN, GOOD_ON_DELIVERY};
+    uint8_t file[2 * GOOD_STEP];
+    put_good_record(file, good_number(GOOD_ABROAD));
+    for (int i = 0; i < 2; i++) {
+        unsigned number = good_number(kinds[i]);
+        const uint64_t good[NUMBERS] = {0, 0, 0, 2, 0, good_cash(number), good_price(number)};
+        const uint64_t unknown[NUMBERS] = {kinds[i] == GOOD_ON_DELIVERY ? 21 : 24, 2, 5};
+        put_good_record(file + GOOD_STEP, number);
+        put_postcode(file + GOOD_STEP, postcode);
+        ask(what, postcode, file, sizeof file, there ? good : unknown);
+    }
+}
+
+/* Abroad none is looked up, so NULL serves. */
+static inline void ask_no_table(void)
+{
+    uint8_t file[2 * GOOD_STEP];
+    uint64_t out[NUMBERS];
+    put_good_record(file, good_number(GOOD_ABROAD));
+    put_good_record(file + GOOD_STEP, good_number(GOOD_PLAIN));
+    expect("NULL, one abroad", 0, check(file, GOOD_STEP, NULL, 0, out), FUGANOREZI_GOOD);
+    expect("NULL, one abroad", 1, out[FUGANOREZI_OUT_LIVE], 1);
+    expect("NULL, one at home", 0, check(file, sizeof file, NULL, 0, out), FUGANOREZI_POSTCODE_UNKNOWN);
+    expect("NULL, one at home", 1, out[FUGANOREZI_OUT_RECORD], 2);
+    expect("NULL, one at home", 2, out[FUGANOREZI_OUT_PLACE], 5);
+}
+
+static inline void ask_tables(void)
+{
+    try_each_wrong_table(ask_under_wrong_table);
+    try_lookups(ask_postcode);
+    ask_no_table();
+    lend_table(good_table, GOOD_ENTRIES);
 }
 
 #endif

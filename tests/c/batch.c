@@ -1,12 +1,14 @@
 /*
- * The open batch from C: the paper's example 15, the judged histories, each refusal, and batches of full size.
- * Buffers and bytes end where memory that cannot be read begins, and each call has the stack that the header says.
+ * The open batch from C: the paper's example 15, the judged histories, each refusal, tables of postcodes, and batches of
+ * full size. Buffers, bytes and tables end where memory that cannot be read begins, and each call has the stack that the
+ * header says.
  */
 #define _DEFAULT_SOURCE /* for fenced.h */
 #include "fenced.h"
 #include "fuganorezi.h"
 #include "good_file.h"
 #include "histories.h"
+#include "tables.h"
 
 #include <ucontext.h>
 
@@ -37,13 +39,26 @@ static void make_memory(void)
     journal_memory = fenced_memory(LONGEST_JOURNAL + 1);
     bytes_memory = fenced_memory(LONGEST_BYTES);
     stack_memory = fenced_memory(STACK);
+    lend_table(good_table, GOOD_ENTRIES);
 }
 
-/* The one batch that there is at a time. */
+/* From here on the batch's calls are given this table. */
+static void give_table(struct batch *b, const uint32_t *entries, size_t count)
+{
+    lend_table(entries, count);
+    b->table = lent.entries;
+    b->entries = lent.count;
+}
+
+/* The one batch that there is at a time. Its calls are given the table that is lent. */
 static struct batch new_batch(size_t file_length, size_t journal_length)
 {
-    struct batch b = {before_fence(file_memory, file_length), before_fence(journal_memory, journal_length), file_length,
-                      journal_length, {0, 0, 0, 0, 0, 0}, 0, 0};
+    struct batch b = {.file = before_fence(file_memory, file_length),
+                      .journal = before_fence(journal_memory, journal_length),
+                      .file_length = file_length,
+                      .journal_length = journal_length,
+                      .table = lent.entries,
+                      .entries = lent.count};
     memset(b.file, 7, file_length);
     memset(b.journal, 0, journal_length);
     return b;
@@ -146,7 +161,7 @@ static void expect_good_file(const char *what, const struct batch *b)
 {
     size_t filled = (size_t)b->counts.held * GOOD_STEP;
     uint64_t out[7];
-    expect(what, 0, fuganorezi_file_check(b->file, filled, out), 0);
+    expect(what, 0, fuganorezi_file_check(b->file, filled, b->table, b->entries, out), 0);
     for (unsigned i = 0; i < 4; i++)
         expect(what, i + 1, out[i + 3], count_in(b->counts, i));
     expect(what, 5, (uint64_t)all_zero(b->file + filled, b->file_length - filled), 1);
@@ -202,6 +217,7 @@ static void ask_example_15(void)
 
 /* Refusals */
 
+/* 235, whatever the table is. */
 static void ask_wrong_lengths(void)
 {
     static const size_t lengths[][2] = {
@@ -279,6 +295,8 @@ static void ask_refusals(void)
     ask_refused("wrong identifier", 0, &b, CANCEL, (const uint8_t *)"BO0800000026F", IDENTIFIER, 1, 1);
     ask_refused_record(&b, 1, 1, "BO0800000026F", 1);
     ask_refused_record(&b, 1, 2, "20230229", 210);
+    ask_refused_record(&b, 1, 5, "11001", 21);
+    ask_refused_record(&b, 3, 5, "11001", 24);
     ask_refused_record(&b, 1, 15, " 0.000", 31);
     ask_refused_record(&b, 3, 15, " 0.000", 34);
     ask_refused_record(&b, 1, 19, "0", 210);
@@ -298,7 +316,111 @@ static void ask_refusals(void)
     expect_empty("refusals undone", &b);
 }
 
+/* Tables of postcodes */
+
+/* Each call but opening. Bytes that are none at all would be 236. */
+static void ask_refused_all(const char *what, struct batch *b, uint64_t code)
+{
+    for (enum op op = ADD; op <= UNDO; op++)
+        ask_refused(what, op, b, op, NULL, 0, code, 0);
+}
+
+/* Before 237 and 236, behind 235; and opening takes no table. */
+static void ask_under_wrong_table(const char *what)
+{
+    struct batch b = open_batch(2 * GOOD_STEP, 2 * ADDITION);
+    uint8_t record[GOOD_STEP];
+    put_good_posting(record, 1);
+    ask_refused_all(what, &b, FUGANOREZI_WRONG_TABLE);
+    ask_refused(what, 0, &b, ADD, record, RECORD, FUGANOREZI_WRONG_TABLE, 0);
+    b.counts.live = 1;
+    ask_refused_all(what, &b, FUGANOREZI_WRONG_TABLE);
+    ask_wrong_lengths();
+}
+
+static void ask_postcode(const char *what, uint32_t postcode, bool there)
+{
+    struct batch b = open_batch(2 * GOOD_STEP, 2 * ADDITION);
+    uint8_t record[GOOD_STEP];
+    put_good_posting(record, good_number(GOOD_PLAIN));
+    put_postcode(record, postcode);
+    ask(what, postcode, &b, ADD, record, RECORD);
+    expect_answer(what, postcode, &b, there ? FUGANOREZI_GOOD : FUGANOREZI_POSTCODE_UNKNOWN, there ? 0 : 5);
+    put_good_posting(record, good_number(GOOD_ON_DELIVERY));
+    put_postcode(record, postcode);
+    ask(what, postcode, &b, ADD, record, RECORD);
+    expect_answer(what, postcode, &b, there ? FUGANOREZI_GOOD : FUGANOREZI_POSTCODE_UNKNOWN_41, there ? 0 : 5);
+    expect_good_file(what, &b);
+}
+
+/* A record that stands with postcode 60200, and had 11000 before: the journal has both. */
+static struct batch amended_batch(void)
+{
+    struct batch b = open_batch(2 * GOOD_STEP, 3 * ADDITION);
+    uint8_t record[GOOD_STEP];
+    add_posting(&b, 1);
+    put_good_posting(record, 1);
+    put_postcode(record, 60200);
+    ask_accepted("another postcode", 0, &b, AMEND, record, RECORD);
+    return b;
+}
+
+/* With another table than before a batch may be refused, and with the same one it is good again. */
+static void ask_other_tables(void)
+{
+    static const uint32_t without_latest[] = {11000, 60199, 60201}, without_first[] = {10999, 11001, 60200};
+    static const uint32_t more[] = {0, 11000, 11001, 60200, 99999}, fewer[] = {11000, 60200};
+    struct batch b = amended_batch();
+    give_table(&b, without_latest, 3);
+    ask_refused_all("without the latest postcode", &b, FUGANOREZI_BATCH_DISAGREES);
+    give_table(&b, without_first, 3);
+    ask_refused_all("without the first postcode", &b, FUGANOREZI_BATCH_DISAGREES);
+    give_table(&b, NULL, 0);
+    ask_refused_all("without any postcode", &b, FUGANOREZI_BATCH_DISAGREES);
+    b.table = NULL;
+    ask_refused_all("NULL", &b, FUGANOREZI_BATCH_DISAGREES);
+    give_table(&b, more, 5);
+    ask_accepted("with more postcodes", 0, &b, UNDO, NULL, 0);
+    give_table(&b, fewer, 2);
+    ask_accepted("with fewer postcodes", 0, &b, UNDO, NULL, 0);
+    expect_empty("another table", &b);
+}
+
+/* What goes abroad needs no table. */
+static void ask_no_table(void)
+{
+    struct batch b = open_batch(2 * GOOD_STEP, 2 * ADDITION);
+    uint8_t record[GOOD_STEP];
+    b.table = NULL;
+    b.entries = 0;
+    put_good_posting(record, good_number(GOOD_PLAIN));
+    ask_refused("NULL, one at home", 0, &b, ADD, record, RECORD, FUGANOREZI_POSTCODE_UNKNOWN, 5);
+    put_good_posting(record, good_number(GOOD_ABROAD));
+    ask_accepted("NULL, one abroad", 0, &b, ADD, record, RECORD);
+    ask_accepted("NULL, amended", 0, &b, AMEND, record, RECORD);
+    ask_accepted("NULL, undone", 0, &b, UNDO, NULL, 0);
+    ask_accepted("NULL, cancelled", 0, &b, CANCEL, record, IDENTIFIER);
+    expect_good_file("NULL", &b);
+}
+
+static void ask_tables(void)
+{
+    try_each_wrong_table(ask_under_wrong_table);
+    try_lookups(ask_postcode);
+    lend_table(good_table, GOOD_ENTRIES);
+    ask_other_tables();
+    ask_no_table();
+    lend_table(good_table, GOOD_ENTRIES);
+}
+
 /* Judged histories */
+
+static void take_table(struct batch *b, struct table table)
+{
+    give_table(b, table.entries, table.count);
+    free(table.entries);
+    b->code = b->place = 0;
+}
 
 static void expect_line(const char *what, unsigned long number, const struct batch *b, const uint64_t expected[LINE])
 {
@@ -315,9 +437,12 @@ static void ask_history(const char *what, unsigned long *number, const struct it
     struct batch b = new_batch(history_file_length(item), history_journal_length(item));
     uint64_t expected[LINE];
     struct step step;
+    take_table(&b, history_table(item));
     for (size_t at = 0; next_step(item, &at, &step);) {
         ++*number;
-        if (step.op >= SPOIL_FILE)
+        if (step.op == SET_TABLE)
+            take_table(&b, table_in(step.bytes, step.length));
+        else if (step.op >= SPOIL_FILE)
             spoil(&b, step.op, step.bytes);
         else
             ask(what, *number, &b, step.op, step.bytes, step.length < LONGEST_BYTES ? step.length : LONGEST_BYTES);
@@ -339,6 +464,7 @@ static void ask_vectors(const char *items_path, const char *lines_path)
     expect_no_line(lines, lines_path);
     fclose(items);
     fclose(lines);
+    lend_table(good_table, GOOD_ENTRIES);
 }
 
 /* Full size */
@@ -413,6 +539,7 @@ int main(int count, char **words)
     ask_example_15();
     ask_wrong_lengths();
     ask_refusals();
+    ask_tables();
     ask_vectors(words[1], words[2]);
     ask_full_file();
     ask_full_journal();

@@ -1,6 +1,6 @@
 /*
- * The closing check from C: the judged vectors, every prefix of a file of sets, and the largest files with a set broken in
- * each way.
+ * The closing check from C: the judged vectors, every prefix of a file of sets, the largest files with a set broken in
+ * each way, and tables of postcodes.
  */
 #define _DEFAULT_SOURCE /* for fenced.h */
 #include "asking.h"
@@ -103,6 +103,8 @@ static void ask_own_refusal_first(void)
     put_parcel(file, PIECES);
     put_field(record_of(file, MOST_RECORDS), 15, "      ");
     ask_refused("a broken set, and a file that is no good", file, sizeof file, 34, MOST_RECORDS, 15);
+    put_postcode(record_of(file, MOST_RECORDS), 11001);
+    ask_refused("a broken set, and a postcode that is not there", file, sizeof file, 24, MOST_RECORDS, 5);
     put_sets(file, MOST_RECORDS, PIECES);
 }
 
@@ -140,11 +142,13 @@ static void ask_sets(void)
 }
 
 /* A line has no totals: those of a file that may be closed are the file check's. */
-static void ask_judged(const char *path, unsigned long number, const struct item *item, const uint64_t *expected)
+static void ask_judged(const char *path, unsigned long number, const struct table *table, const struct item *item,
+                       const uint64_t *expected)
 {
     uint64_t numbers[NUMBERS] = {0};
+    lend_table(table->entries, table->count);
     if (expected[0] == 0)
-        fuganorezi_file_check(item->bytes, item->length, numbers);
+        fuganorezi_file_check(item->bytes, item->length, table->entries, table->count, numbers);
     memcpy(numbers, expected, JUDGED_NUMBERS * sizeof expected[0]);
     ask(path, number, item->bytes, item->length, numbers);
 }
@@ -156,6 +160,7 @@ int main(int count, char **words)
     start(fuganorezi_closing_check);
     ask_no_bytes();
     ask_sets();
-    ask_each(words[1], words[2], JUDGED_NUMBERS, ask_judged);
+    ask_tables();
+    ask_each(words[1], words[2], UNDER_TABLE, JUDGED_NUMBERS, ask_judged);
     return summary("closing");
 }

@@ -1,5 +1,6 @@
 /*
- * The file check from C: the judged vectors, every prefix of a good file, the largest files, the paper's example 14.
+ * The file check from C: the judged vectors, every prefix of a good file, the largest files, the paper's example 14, and
+ * tables of postcodes.
  */
 #define _DEFAULT_SOURCE /* for fenced.h */
 #include "asking.h"
@@ -43,7 +44,7 @@ static void ask_repeated(uint8_t *file, unsigned records, unsigned earlier)
     put_good_record(last, records);
 }
 
-/* The last of the most records broken, in four ways: the totals of those before it are not told. */
+/* The last of the most records broken, in several ways: the totals of those before it are not told. */
 static void ask_broken_last(uint8_t *file)
 {
     const size_t length = (size_t)MOST_RECORDS * GOOD_STEP;
@@ -52,6 +53,10 @@ static void ask_broken_last(uint8_t *file)
     ask_refused("last record without weight", file, length, 34, MOST_RECORDS, 15);
     put_field(last, 18, "41+45");
     ask_refused("last record without weight under service 41", file, length, 31, MOST_RECORDS, 15);
+    put_postcode(last, 11001);
+    ask_refused("last record with another postcode under service 41", file, length, 21, MOST_RECORDS, 5);
+    put_field(last, 18, "4+45 ");
+    ask_refused("last record with another postcode", file, length, 24, MOST_RECORDS, 5);
     put_field(last, 1, "?");
     ask_refused("last record without identifier", file, length, 1, MOST_RECORDS, 1);
     last[GOOD_STEP - 1] = ' ';
@@ -107,8 +112,10 @@ static void ask_made_files(void)
     ask_accepted("999 records again", file, MOST_RECORDS);
 }
 
-static void ask_judged(const char *path, unsigned long number, const struct item *item, const uint64_t *expected)
+static void ask_judged(const char *path, unsigned long number, const struct table *table, const struct item *item,
+                       const uint64_t *expected)
 {
+    lend_table(table->entries, table->count);
     ask(path, number, item->bytes, item->length, expected);
 }
 
@@ -120,6 +127,7 @@ int main(int count, char **words)
     ask_no_bytes();
     ask_example_14();
     ask_made_files();
-    ask_each(words[1], words[2], NUMBERS, ask_judged);
+    ask_tables();
+    ask_each(words[1], words[2], UNDER_TABLE, NUMBERS, ask_judged);
     return summary("files");
 }

@@ -15,6 +15,11 @@
 
 enum { GOOD_STEP = FUGANOREZI_LINE_LENGTH, GOOD_STATUS = FUGANOREZI_START_19, GOOD_KINDS = 6 };
 
+/* The table of postcodes under which they are good: that of all which stay at home, and two others. */
+#define GOOD_POSTCODE "11000"
+static const uint32_t good_table[] = {10000, 11000, 60200};
+enum { GOOD_ENTRIES = sizeof good_table / sizeof good_table[0] };
+
 /* What a file of good records has to be answered with. */
 struct good_totals {
     uint64_t live, cancelled, cash, price;
@@ -30,6 +35,13 @@ static inline void put_amount(uint8_t *record, unsigned field, uint64_t hellers)
     char text[32];
     snprintf(text, sizeof text, "%" PRIu64 ".%02" PRIu64, hellers / 100, hellers % 100);
     put_field(record, field, text);
+}
+
+static inline void put_postcode(uint8_t *record, uint32_t postcode)
+{
+    char text[16];
+    snprintf(text, sizeof text, "%05u", (unsigned)postcode % 100000);
+    put_field(record, 5, text);
 }
 
 /* The check digit of nine digits; for eight, ask with a 0 before them, which adds nothing to the sum. */
@@ -65,6 +77,12 @@ static inline enum good_kind good_kind(unsigned number)
     return (enum good_kind)(number % GOOD_KINDS);
 }
 
+/* A number whose record is of this kind. */
+static inline unsigned good_number(enum good_kind kind)
+{
+    return GOOD_KINDS + kind;
+}
+
 static inline bool good_has_cash(unsigned number)
 {
     enum good_kind kind = good_kind(number);
@@ -92,7 +110,7 @@ static inline void put_good_address(uint8_t *record, bool abroad)
     put_field(record, 2, "20240229");
     put_field(record, 3, "23:59:59");
     put_field(record, 4, "Ku\x9f" "era Ji\xfd\xa1"); /* CP852 */
-    put_field(record, 5, abroad ? "1030" : "11000");
+    put_field(record, 5, abroad ? "1030" : GOOD_POSTCODE);
     put_field(record, 6, abroad ? "AT" : "");
     put_field(record, 7, abroad ? "Wien" : "Praha 1");
     put_field(record, 8, abroad ? "" : "Star\x82 M\xd8sto");

@@ -1,6 +1,7 @@
 /*
- * Judged histories of a batch. An item has the lengths of the file and of the journal, four bytes each, and then steps:
- * one byte that says what is done, four bytes of length, and as many bytes. Lowest bytes come first.
+ * Judged histories of a batch. An item has the lengths of the file and of the journal, four bytes each, the table of
+ * postcodes, and then steps: one byte that says what is done, four bytes of length, and as many bytes. Lowest bytes come
+ * first.
  */
 #ifndef HISTORIES_H
 #define HISTORIES_H
@@ -10,13 +11,15 @@
 
 enum { COUNTS = 6 };
 
-/* The first five are calls; the others change something behind the batch's back. */
-enum op { OPEN, ADD, CANCEL, AMEND, UNDO, SPOIL_FILE, SPOIL_JOURNAL, SPOIL_COUNT };
+/* The first five are calls; the next change something behind the batch's back; and then the table is another. */
+enum op { OPEN, ADD, CANCEL, AMEND, UNDO, SPOIL_FILE, SPOIL_JOURNAL, SPOIL_COUNT, SET_TABLE };
 
-/* A batch, and what its latest call answered. */
+/* A batch, the table that its calls are given, and what the latest answered. */
 struct batch {
     uint8_t *file, *journal;
     size_t file_length, journal_length;
+    const uint32_t *table;
+    size_t entries;
     fuganorezi_counts counts;
     uint32_t code, place;
 };
@@ -27,7 +30,7 @@ struct step {
     size_t length;
 };
 
-/* The lengths of both buffers, which stand before the first step. */
+/* What stands before the first step: the lengths of both buffers, and the table, whose entries the caller frees. */
 static inline size_t history_file_length(const struct item *item)
 {
     return four_bytes(item->bytes);
@@ -38,11 +41,18 @@ static inline size_t history_journal_length(const struct item *item)
     return four_bytes(item->bytes + 4);
 }
 
+enum { BEHIND_LENGTHS = 8 };
+
+static inline struct table history_table(const struct item *item)
+{
+    return table_in(item->bytes + BEHIND_LENGTHS, item->length - BEHIND_LENGTHS);
+}
+
 /* The step at a place, first 0, which moves on to the next; 0 behind the last. */
 static inline int next_step(const struct item *item, size_t *at, struct step *step)
 {
     if (*at == 0)
-        *at = 8;
+        *at = BEHIND_LENGTHS + table_length(item->bytes + BEHIND_LENGTHS);
     if (*at >= item->length)
         return 0;
     step->op = (enum op)item->bytes[*at];
@@ -73,7 +83,7 @@ static inline void set_byte(uint8_t *buffer, size_t length, const uint8_t bytes[
         buffer[at] = bytes[4];
 }
 
-/* Changes something behind the batch's back. */
+/* Changes something behind the batch's back: no table. */
 static inline void spoil(struct batch *b, enum op op, const uint8_t *bytes)
 {
     if (op == SPOIL_FILE)
@@ -89,18 +99,19 @@ static inline fuganorezi_outcome call(const struct batch *b, enum op op, const u
 {
     static const fuganorezi_outcome none;
     uint8_t *file = b->file, *journal = b->journal;
-    size_t n = b->file_length, m = b->journal_length;
+    const uint32_t *table = b->table;
+    size_t n = b->file_length, m = b->journal_length, entries = b->entries;
     switch (op) {
     case OPEN:
         return fuganorezi_batch_open(file, n, journal, m);
     case ADD:
-        return fuganorezi_batch_add(file, n, journal, m, b->counts, bytes, length);
+        return fuganorezi_batch_add(file, n, journal, m, b->counts, bytes, length, table, entries);
     case CANCEL:
-        return fuganorezi_batch_cancel(file, n, journal, m, b->counts, bytes, length);
+        return fuganorezi_batch_cancel(file, n, journal, m, b->counts, bytes, length, table, entries);
     case AMEND:
-        return fuganorezi_batch_amend(file, n, journal, m, b->counts, bytes, length);
+        return fuganorezi_batch_amend(file, n, journal, m, b->counts, bytes, length, table, entries);
     case UNDO:
-        return fuganorezi_batch_undo(file, n, journal, m, b->counts);
+        return fuganorezi_batch_undo(file, n, journal, m, b->counts, table, entries);
     default:
         give_up("a test", "calls what is no call");
         return none;

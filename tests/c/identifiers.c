@@ -40,8 +40,10 @@ static void ask_no_bytes(void)
 }
 
 /* A line of the judgement is a code and its place; the place follows from the code, and C is told the code alone. */
-static void ask_judged(const char *path, unsigned long number, const struct item *item, const uint64_t *code_and_place)
+static void ask_judged(const char *path, unsigned long number, const struct table *none, const struct item *item,
+                       const uint64_t *code_and_place)
 {
+    (void)none;
     expect(path, number, fuganorezi_identifier_check(item->bytes, item->length), code_and_place[0]);
 }
 
@@ -51,6 +53,6 @@ int main(int count, char **words)
         give_up(words[0], "wants a file of items and one of their lines");
     ask_examples();
     ask_no_bytes();
-    ask_each(words[1], words[2], 2, ask_judged);
+    ask_each(words[1], words[2], BARE, 2, ask_judged);
     return summary("identifiers");
 }

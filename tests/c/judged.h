@@ -15,6 +15,12 @@ struct item {
     size_t length;
 };
 
+/* A table of postcodes. */
+struct table {
+    uint32_t *entries;
+    size_t count;
+};
+
 static unsigned long asked, wrong;
 
 /* Ends the test where what it was given cannot serve. */
@@ -82,6 +88,25 @@ static inline int next_item(FILE *from, const char *path, struct item *item)
     return 1;
 }
 
+/* How many bytes a table takes that stands here: four with the number of its entries, and four for each. */
+static inline size_t table_length(const uint8_t *bytes)
+{
+    return 4 + 4 * four_bytes(bytes);
+}
+
+/* The table at the front of these bytes, in memory of exactly its length, which the caller frees. */
+static inline struct table table_in(const uint8_t *bytes, size_t length)
+{
+    if (length < 4 || length < table_length(bytes))
+        give_up("an item", "cut short in its table");
+    struct table table = {NULL, four_bytes(bytes)};
+    if (table.count != 0 && (table.entries = malloc(table.count * sizeof table.entries[0])) == NULL)
+        give_up("an item", "a table too long for the memory");
+    for (size_t i = 0; i < table.count; i++)
+        table.entries[i] = (uint32_t)four_bytes(bytes + 4 + 4 * i);
+    return table;
+}
+
 /* The numbers of the next line. */
 static inline void read_line(FILE *lines, const char *path, uint64_t *numbers, size_t count)
 {
@@ -99,11 +124,29 @@ static inline void expect_no_line(FILE *lines, const char *path)
 
 enum { MOST_NUMBERS = 7 };
 
-/* What is asked of an item, whose line has these numbers. */
-typedef void ask_item(const char *path, unsigned long number, const struct item *item, const uint64_t *expected);
+/* Whether a table stands at the front of each item. */
+enum form { BARE, UNDER_TABLE };
+
+/* What is asked of an item, under a table that has no entries where the items are bare. The line has these numbers. */
+typedef void ask_item(const char *path, unsigned long number, const struct table *table, const struct item *item,
+                      const uint64_t *expected);
+
+static inline void ask_one(const char *path, unsigned long number, enum form form, const struct item *item,
+                           const uint64_t *expected, ask_item *ask)
+{
+    struct table table = {NULL, 0};
+    struct item rest = *item;
+    if (form == UNDER_TABLE) {
+        table = table_in(item->bytes, item->length);
+        rest.bytes += table_length(item->bytes);
+        rest.length -= table_length(item->bytes);
+    }
+    ask(path, number, &table, &rest, expected);
+    free(table.entries);
+}
 
 /* Asks about each item of a file; the line of each has so many numbers. */
-static inline void ask_each(const char *items_path, const char *lines_path, size_t count, ask_item *ask)
+static inline void ask_each(const char *items_path, const char *lines_path, enum form form, size_t count, ask_item *ask)
 {
     FILE *items = open_or_give_up(items_path);
     FILE *lines = open_or_give_up(lines_path);
@@ -111,7 +154,7 @@ static inline void ask_each(const char *items_path, const char *lines_path, size
     uint64_t expected[MOST_NUMBERS];
     for (unsigned long number = 1; next_item(items, items_path, &item); number++) {
         read_line(lines, lines_path, expected, count);
-        ask(items_path, number, &item, expected);
+        ask_one(items_path, number, form, &item, expected, ask);
         free(item.bytes);
     }
     expect_no_line(lines, lines_path);

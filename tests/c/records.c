@@ -1,12 +1,13 @@
 /*
  * The record check from C: the judged vectors, our own records of each code and place, every length, a byte that no field
- * may hold at each place, and a record that is to be posted. What is asked about ends where memory that cannot be read
- * begins, and cannot be written during the call.
+ * may hold at each place, a record that is to be posted, and tables of postcodes. What is asked about and the table end
+ * where memory that cannot be read begins, and cannot be written during the call.
  */
 #define _DEFAULT_SOURCE /* for fenced.h */
 #include "fenced.h"
 #include "fuganorezi.h"
 #include "good_file.h"
+#include "tables.h"
 
 enum { RECORD = FUGANOREZI_RECORD_LENGTH, LONGEST = 65536, CONTROL_BYTE = 1 };
 
@@ -14,7 +15,7 @@ enum { RECORD = FUGANOREZI_RECORD_LENGTH, LONGEST = 65536, CONTROL_BYTE = 1 };
 _Static_assert(offsetof(fuganorezi_answer, place) == 4, "behind the code");
 _Static_assert(sizeof(fuganorezi_answer) == 8, "and nothing more");
 
-typedef fuganorezi_answer record_check(const uint8_t *bytes, size_t length);
+typedef fuganorezi_answer record_check(const uint8_t *bytes, size_t length, const uint32_t *table, size_t entries);
 
 static struct fenced memory;
 
@@ -23,7 +24,7 @@ static void ask(const char *what, unsigned long number, record_check *check, con
 {
     const uint8_t *there = put_before_fence(memory, bytes, length);
     protect(memory, PROT_READ);
-    fuganorezi_answer answer = check(there, length);
+    fuganorezi_answer answer = check(there, length, lent.entries, lent.count);
     protect(memory, PROT_READ | PROT_WRITE);
     expect(what, number, answer.code, code);
     expect(what, number, answer.place, place);
@@ -45,7 +46,7 @@ static void ask_lengths(void)
             ask_both("a good record", length, two, length, FUGANOREZI_GOOD, 0);
         else
             ask_both("of another length", length, two, length, FUGANOREZI_WRONG_LENGTH, 0);
-    fuganorezi_answer answer = fuganorezi_record_check(NULL, 0);
+    fuganorezi_answer answer = fuganorezi_record_check(NULL, 0, NULL, 0);
     expect("NULL", 0, answer.code, FUGANOREZI_WRONG_LENGTH);
 }
 
@@ -78,8 +79,46 @@ static void ask_cancelled(void)
     ask("cancelled, to be posted", 0, fuganorezi_record_check_posting, record, RECORD, FUGANOREZI_MALFORMED, 19);
 }
 
-static void ask_judged(const char *path, unsigned long number, const struct item *item, const uint64_t *expected)
+/* ---- tables */
+
+/* A wrong table is told of first, whatever the bytes are. */
+static void ask_under_wrong_table(const char *what)
 {
+    uint8_t record[GOOD_STEP];
+    put_good_record(record, good_number(GOOD_PLAIN));
+    ask_both(what, 0, record, RECORD, FUGANOREZI_WRONG_TABLE, 0);
+    ask_both(what, 1, record, RECORD - 1, FUGANOREZI_WRONG_TABLE, 0);
+    ask_both(what, 2, record, 0, FUGANOREZI_WRONG_TABLE, 0);
+    record[0] = '?';
+    ask_both(what, 3, record, RECORD, FUGANOREZI_WRONG_TABLE, 0);
+}
+
+static void ask_postcode(const char *what, uint32_t postcode, bool there)
+{
+    uint8_t record[GOOD_STEP];
+    uint32_t place = there ? 0 : 5;
+    put_good_record(record, good_number(GOOD_PLAIN));
+    put_postcode(record, postcode);
+    ask_both(what, postcode, record, RECORD, there ? FUGANOREZI_GOOD : FUGANOREZI_POSTCODE_UNKNOWN, place);
+    put_good_record(record, good_number(GOOD_ON_DELIVERY));
+    put_postcode(record, postcode);
+    ask_both(what, postcode, record, RECORD, there ? FUGANOREZI_GOOD : FUGANOREZI_POSTCODE_UNKNOWN_41, place);
+    put_good_record(record, good_number(GOOD_ABROAD));
+    put_postcode(record, postcode);
+    ask_both(what, postcode, record, RECORD, FUGANOREZI_GOOD, 0);
+}
+
+static void ask_tables(void)
+{
+    try_each_wrong_table(ask_under_wrong_table);
+    try_lookups(ask_postcode);
+    lend_table(good_table, GOOD_ENTRIES);
+}
+
+static void ask_judged(const char *path, unsigned long number, const struct table *table, const struct item *item,
+                       const uint64_t *expected)
+{
+    lend_table(table->entries, table->count);
     ask(path, number, fuganorezi_record_check, item->bytes, item->length, expected[0], expected[1]);
 }
 
@@ -88,10 +127,12 @@ int main(int count, char **words)
     if (count != 5)
         give_up(words[0], "wants a file of items and one of their lines, twice");
     memory = fenced_memory(LONGEST);
+    lend_table(good_table, GOOD_ENTRIES);
     ask_lengths();
     ask_each_place();
     ask_cancelled();
-    ask_each(words[1], words[2], 2, ask_judged);
-    ask_each(words[3], words[4], 2, ask_judged);
+    ask_tables();
+    ask_each(words[1], words[2], UNDER_TABLE, 2, ask_judged);
+    ask_each(words[3], words[4], UNDER_TABLE, 2, ask_judged);
     return summary("records");
 }

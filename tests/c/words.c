@@ -63,14 +63,15 @@ static void ask_version(void)
 
 int main(int count, char **words)
 {
-    if (count != 7)
-        give_up(words[0], "wants the lines of identifiers, records, rules, files, closing and histories");
+    if (count != 8)
+        give_up(words[0], "wants the lines of identifiers, records, rules, files, closing, kcheck and histories");
     ask_lines(words[1], 2, 1);
     ask_lines(words[2], 2, 1);
     ask_lines(words[3], 2, 1);
     ask_lines(words[4], 7, 2);
     ask_lines(words[5], 3, 2);
-    ask_lines(words[6], 10, 1);
+    ask_lines(words[6], 7, 2);
+    ask_lines(words[7], 10, 1);
     ask_no_words();
     ask_fields();
     ask_version();

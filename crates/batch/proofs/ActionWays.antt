@@ -11,6 +11,7 @@ use borrow.Author.Tests.{eq-eqb, ne-eqb, le-leb, lt-leb}
 use borrow.Rule.Slice.PartMut.{putMid}
 use lib.ListN.{length, getD, take, drop, set, length-append, length-drop}
 use lib.Seq.{take-suc, take-all, drop-cons, set-at, append-snoc, length-take-le}
+use Rattle.psc.specs.Table.{Known}
 use Rattle.text.specs.declared.Answer.{Answer}
 use Rattle.text.specs.Answers.{answer, accepted}
 use Rattle.text.specs.Lists.{sameBytes}
@@ -19,7 +20,7 @@ use Rattle.ident.specs.Identifier.{rightId}
 use Rattle.ident.specs.Calls.{Checked}
 use Rattle.layout.specs.Layout.{fieldOf}
 use Rattle.text.proofs.AnswerLaws.{or-first, or-second}
-use Rattle.record.specs.Rules.{recordAnswer}
+use Rattle.record.specs.Rules.{toPost, recordAnswer}
 use Rattle.posting.specs.File.{lineOf, idAt}
 use Rattle.batch.specs.Places.{recordNumber, liveAnswer, addAnswer, amendAnswer, cancelAnswer, withLine, actionAnswer}
 
@@ -29,20 +30,20 @@ unfolding recordNumber
 seek-down file id zero h = absurd (omega arith)
 seek-down file id (suc j) h = let e : suc j - 1 ≡ j = omega arith in rw e
 
-module _ (file id : List ℕ) (j r : ℕ) (b : Bool) (known : recordNumber file id j ≡ r) (h : 0 < j)
+module _ (file id : List ℕ) (j r : ℕ) (b : Bool) (so : recordNumber file id j ≡ r) (h : 0 < j)
     (eb : b ≡ sameBytes (take ((j - 1) * 401 + 13 - (j - 1) * 401) (drop ((j - 1) * 401) file)) id) where
   here : b ≡ sameBytes (idAt file (j - 1)) id
   here = eb ∙ rw (add-sub-cancel-left)
 
   pub seek-found : b ≡ true → j ≡ r
-  seek-found t = rw (seek-down file id j h, ← here, t) at known
+  seek-found t = rw (seek-down file id j h, ← here, t) at so
 
   pub seek-on : b ≡ false → recordNumber file id (j - 1) ≡ r
-  seek-on t = rw (seek-down file id j h, ← here, t) at known
+  seek-on t = rw (seek-down file id j h, ← here, t) at so
 
 pub seek-none : (file id : List ℕ) (j r : ℕ) → recordNumber file id j ≡ r → j ≤ 0 → 0 ≡ r
 unfolding recordNumber
-seek-none file id j r known h = let z : j ≡ 0 = omega arith in rw z at known
+seek-none file id j r so h = let z : j ≡ 0 = omega arith in rw z at so
 
 -- ---- live_answer
 module _ (file id : List ℕ) (held n : ℕ) (en : (n ≡ recordNumber file id held) × (n ≤ held)) where
@@ -57,30 +58,30 @@ module _ (file id : List ℕ) (held n : ℕ) (en : (n ≡ recordNumber file id h
 
 -- ---- add_answer, amend_answer, cancel_answer, action_answer
 
-module _ (file rec : List ℕ) (held : ℕ) (a : Answer) (ea : a ≡ recordAnswer true rec) where
-  pub add-broken : (a .code ≡ 0 → ⊥) → a ≡ addAnswer file held rec
+module _ (known : Known) (file rec : List ℕ) (held : ℕ) (a : Answer) (ea : a ≡ recordAnswer (toPost known) rec) where
+  pub add-broken : (a .code ≡ 0 → ⊥) → a ≡ addAnswer known file held rec
   unfolding addAnswer
   add-broken n = rw (← ea) (or-first a _ n)
 
-  pub amend-broken : (a .code ≡ 0 → ⊥) → a ≡ amendAnswer file held rec
+  pub amend-broken : (a .code ≡ 0 → ⊥) → a ≡ amendAnswer known file held rec
   unfolding amendAnswer
   amend-broken n = rw (← ea) (or-first a _ n)
 
   module _ (z : a .code ≡ 0) (id : List ℕ) (ei : id ≡ fieldOf rec 1) where
-    pub amend-live : (r : Answer) → r ≡ liveAnswer file held id → r ≡ amendAnswer file held rec
+    pub amend-live : (r : Answer) → r ≡ liveAnswer file held id → r ≡ amendAnswer known file held rec
     unfolding amendAnswer
     amend-live r e = rw (← ea, ← ei) (e ∙ or-second a (liveAnswer file held id) z)
 
     module _ (n : ℕ) (en : (n ≡ recordNumber file id held) × (n ≤ held)) where
-      pub add-repeats : (n ≡ 0 → ⊥) → answer 2 1 ≡ addAnswer file held rec
+      pub add-repeats : (n ≡ 0 → ⊥) → answer 2 1 ≡ addAnswer known file held rec
       unfolding addAnswer
       add-repeats m = rw (← ea, ← ei, ← en .0, ne-eqb n 0 m) (or-second a (answer 2 1) z)
 
-      pub add-room : n ≡ 0 → held * 401 + 401 ≤ length file → accepted ≡ addAnswer file held rec
+      pub add-room : n ≡ 0 → held * 401 + 401 ≤ length file → accepted ≡ addAnswer known file held rec
       unfolding addAnswer
       add-room m h = rw (← ea, ← ei, ← en .0, eq-eqb n 0 m, le-leb (held * 401 + 401) (length file) h) (or-second a accepted z)
 
-      pub add-full : n ≡ 0 → length file < held * 401 + 401 → answer 230 0 ≡ addAnswer file held rec
+      pub add-full : n ≡ 0 → length file < held * 401 + 401 → answer 230 0 ≡ addAnswer known file held rec
       unfolding addAnswer
       add-full m h = rw (← ea, ← ei, ← en .0, eq-eqb n 0 m, lt-leb (held * 401 + 401) (length file) h) (or-second a (answer 230 0) z)
 
@@ -101,17 +102,17 @@ module _ (file id : List ℕ) (held : ℕ) (a : Answer) (ea : Checked id a) wher
       go true q = refl
       go false q = absurd (let w : _≡_ {A = ℕ} 1 0 = sym (ap (λ (x : Answer). x .code) ea ∙ rw q) ∙ z in omega arith)
 
-pub action-add : (file body : List ℕ) (held kind : ℕ) (r : Answer) → kind ≡ 1 → r ≡ addAnswer file held body → r ≡ actionAnswer file held kind body
+pub action-add : (known : Known) (file body : List ℕ) (held kind : ℕ) (r : Answer) → kind ≡ 1 → r ≡ addAnswer known file held body → r ≡ actionAnswer known file held kind body
 unfolding actionAnswer
-action-add file body held kind r k e = rw (eq-eqb kind 1 k) e
+action-add known file body held kind r k e = rw (eq-eqb kind 1 k) e
 
-pub action-amend : (file body : List ℕ) (held kind : ℕ) (r : Answer) → (kind ≡ 1 → ⊥) → kind ≡ 3 → r ≡ amendAnswer file held body → r ≡ actionAnswer file held kind body
+pub action-amend : (known : Known) (file body : List ℕ) (held kind : ℕ) (r : Answer) → (kind ≡ 1 → ⊥) → kind ≡ 3 → r ≡ amendAnswer known file held body → r ≡ actionAnswer known file held kind body
 unfolding actionAnswer
-action-amend file body held kind r n k e = rw (ne-eqb kind 1 n, eq-eqb kind 3 k) e
+action-amend known file body held kind r n k e = rw (ne-eqb kind 1 n, eq-eqb kind 3 k) e
 
-pub action-cancel : (file body : List ℕ) (held kind : ℕ) (r : Answer) → (kind ≡ 1 → ⊥) → (kind ≡ 3 → ⊥) → r ≡ cancelAnswer file held body → r ≡ actionAnswer file held kind body
+pub action-cancel : (known : Known) (file body : List ℕ) (held kind : ℕ) (r : Answer) → (kind ≡ 1 → ⊥) → (kind ≡ 3 → ⊥) → r ≡ cancelAnswer file held body → r ≡ actionAnswer known file held kind body
 unfolding actionAnswer
-action-cancel file body held kind r n m e = rw (ne-eqb kind 1 n, ne-eqb kind 3 m) e
+action-cancel known file body held kind r n m e = rw (ne-eqb kind 1 n, ne-eqb kind 3 m) e
 
 -- ---- write_line: the record's bytes from the front on
 pub copied-on : (s t : List ℕ) (i : ℕ) → i < length s → i < length t → set (take i t ++ drop i s) i (getD t i 0) ≡ take (i + 1) t ++ drop (i + 1) s

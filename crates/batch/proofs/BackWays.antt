@@ -13,6 +13,7 @@ use mir.Val.{Fits}
 use lib.Dec.{eqb}
 use lib.ListN.{length, take, drop, length-append}
 use lib.Seq.{take-append-seam, drop-append-seam, take-take, take-add}
+use Rattle.psc.specs.Table.{Known}
 use Rattle.text.proofs.Booleans.{clash}
 use Rattle.posting.specs.Bounds.{Small}
 use Rattle.posting.specs.File.{recordAt}
@@ -54,32 +55,35 @@ ended (a ∷ []) h = record { front = []; act = a; is = refl }
 ended (a ∷ b ∷ xs) h = let e = ended (b ∷ xs) (omega arith) in record { front = a ∷ e .front; act = e .act; is = ap (λ (ys : List Action). a ∷ ys) (e .is) }
 
 -- ---- what is known of it
-pub record Latest (file journal : List ℕ) (c : Counts) (last : ℕ) (front : List Action) (a : Action) : Type 0 where
-  turns : inTurn posted (length file) (length journal) front ≡ true
-  sheet : Sheet (recordsOf front)
+pub record Latest (known : Known) (file journal : List ℕ) (c : Counts) (last : ℕ) (front : List Action) (a : Action) : Type 0 where
+  turns : inTurn (posted known) (length file) (length journal) front ≡ true
+  sheet : Sheet known (recordsOf front)
   places : length (recordsOf front) * 401 ≤ length file
-  rule : actionRule posted (recordsOf front) (length file / 401) a .code ≡ 0
+  rule : actionRule (posted known) (recordsOf front) (length file / 401) a .code ≡ 0
   entry : EntryAt journal (c .used) last a
   filed : file ≡ zeroFilled (length file) (linesOf (recordsAfter (recordsOf front) a))
   held : c .held ≡ length (recordsAfter (recordsOf front) a)
   totals : c .totals ≡ totalsOf (recordsAfter (recordsOf front) a)
   bytes : take last journal ≡ entriesOf front
   starts : last ≡ length (entriesOf front)
-  only : (s : State) → Stands posted (batchOf file journal c) s → withoutLatest (s .actions) ≡ front
+  only : (k : Known) (s : State) → Stands (posted k) (batchOf file journal c) s → withoutLatest (s .actions) ≡ front
   within : c .used ≤ length journal
   bounded : length journal ≤ 1048576
   holding : Holding file c
 
-record Known (file journal : List ℕ) (c : Counts) (last : ℕ) : Type 0 where
+record LatestOf (known : Known) (file journal : List ℕ) (c : Counts) (last : ℕ) : Type 0 where
   front : List Action
   act : Action
-  latest : Latest file journal c last front act
+  latest : Latest known file journal c last front act
 
 module _ (file journal : List ℕ) (c : Counts) (last : ℕ) (pre : Undoable file journal c last) where
+  abbrev known : Known
+  known = pre .known
+
   abbrev s : State
   s = pre .found .what
 
-  abbrev st : Stands posted (batchOf file journal c) s
+  abbrev st : Stands (posted known) (batchOf file journal c) s
   st = pre .found .stands
 
   some-act : 0 < length (s .actions)
@@ -93,14 +97,14 @@ module _ (file journal : List ℕ) (c : Counts) (last : ℕ) (pre : Undoable fil
     front-is : withoutLatest (s .actions) ≡ front
     front-is = ap withoutLatest is ∙ without-latest front a
 
-    turns-so : inTurn posted (length file) (length journal) front ≡ true
-    turns-so = subst (λ (xs : List Action). inTurn posted (length file) (length journal) xs ≡ true) front-is (turns-front-behind posted (length file) (length journal) [] (s .actions) (st .turns))
+    turns-so : inTurn (posted known) (length file) (length journal) front ≡ true
+    turns-so = subst (λ (xs : List Action). inTurn (posted known) (length file) (length journal) xs ≡ true) front-is (turns-front-behind (posted known) (length file) (length journal) [] (s .actions) (st .turns))
 
-    fit : Holds (length file) (length journal) front
-    fit = turns-fit posted posted-fit (length file) (length journal) front turns-so
+    fit : Holds known (length file) (length journal) front
+    fit = turns-fit (posted known) (posted-fit known) (length file) (length journal) front turns-so
 
-    fit-all : Holds (length file) (length journal) (s .actions)
-    fit-all = turns-fit posted posted-fit (length file) (length journal) (s .actions) (st .turns)
+    fit-all : Holds known (length file) (length journal) (s .actions)
+    fit-all = turns-fit (posted known) (posted-fit known) (length file) (length journal) (s .actions) (st .turns)
 
     starts-so : last ≡ length (entriesOf front)
     starts-so = pre .found .latest ∙ ap (λ (xs : List Action). length (entriesOf xs)) front-is
@@ -150,9 +154,9 @@ module _ (file journal : List ℕ) (c : Counts) (last : ℕ) (pre : Undoable fil
         subst Small (over ∙ ap totalsOf recs-so ∙ sym totals-so)
         (small-so-far _ (length (recordsOf (s .actions))) (omega (arith, fit-all .places, bounds .0)))
 
-    latest-so : Latest file journal c last front a
+    latest-so : Latest known file journal c last front a
     latest-so =
-        let ok = accepted-if posted _ _ _ a (turn-at (length file) (length journal) [] front a [] (subst (λ (xs : List Action). inTurn posted (length file) (length journal) xs ≡ true) is (st .turns))) in
+        let ok = accepted-if (posted known) _ _ _ a (turn-at (posted known) (length file) (length journal) [] front a [] (subst (λ (xs : List Action). inTurn (posted known) (length file) (length journal) xs ≡ true) is (st .turns))) in
         record {
           turns = turns-so;
           sheet = fit .sheet;
@@ -164,33 +168,33 @@ module _ (file journal : List ℕ) (c : Counts) (last : ℕ) (pre : Undoable fil
           totals = totals-so;
           bytes = bytes-so;
           starts = starts-so;
-          only = λ t u. ap (λ (x : State). withoutLatest (x .actions)) (stands-once posted (batchOf file journal c) t s u st) ∙ front-is;
+          only = λ k t u. ap (λ (x : State). withoutLatest (x .actions)) (stands-once (posted k) (posted known) (batchOf file journal c) t s u st) ∙ front-is;
           within = omega (arith, used-long file journal c s st, fit-all .room);
           bounded = bounds .1;
           holding = record { few = omega (arith, places-so, bounds .0); places = places-so; small = small-so };
         }
 
-  known : Known file journal c last
-  known = let e = ended (s .actions) some-act in record { front = e .front; act = e .act; latest = latest-so (e .front) (e .act) (e .is) }
+  latest-of : LatestOf known file journal c last
+  latest-of = let e = ended (s .actions) some-act in record { front = e .front; act = e .act; latest = latest-so (e .front) (e .act) (e .is) }
 
 -- ---- by the kind of its entry
-data Which (file journal : List ℕ) (c : Counts) (last kind : ℕ) : Type 0 where
-  added : kind ≡ 1 → (front : List Action) (rec : List ℕ) → Latest file journal c last front (Addition rec) → Which file journal c last kind
-  cancelled : kind ≡ 2 → (front : List Action) (id : List ℕ) → Latest file journal c last front (Cancellation id) → Which file journal c last kind
-  amended : kind ≡ 3 → (front : List Action) (rec : List ℕ) → Latest file journal c last front (Amendment rec) → Which file journal c last kind
+data Which (known : Known) (file journal : List ℕ) (c : Counts) (last kind : ℕ) : Type 0 where
+  added : kind ≡ 1 → (front : List Action) (rec : List ℕ) → Latest known file journal c last front (Addition rec) → Which known file journal c last kind
+  cancelled : kind ≡ 2 → (front : List Action) (id : List ℕ) → Latest known file journal c last front (Cancellation id) → Which known file journal c last kind
+  amended : kind ≡ 3 → (front : List Action) (rec : List ℕ) → Latest known file journal c last front (Amendment rec) → Which known file journal c last kind
 
 -- the file and the counts of those before it
-done : (file journal : List ℕ) (c : Counts) (last : ℕ) (front : List Action) (a : Action) → Latest file journal c last front a → (r : Counts) (file′ : List ℕ)
+done : {known : Known} (file journal : List ℕ) (c : Counts) (last : ℕ) (front : List Action) (a : Action) → Latest known file journal c last front a → (r : Counts) (file′ : List ℕ)
     → file′ ≡ zeroFilled (length file) (linesOf (recordsOf front)) → r ≡ countsOf (totalsOf (recordsOf front)) (length (recordsOf front)) last → TakenBack file journal c last r file′
 unfolding made
 done file journal c last front a l r file′ ef er =
     let filled : (xs : List Action) → front ≡ xs → file′ ≡ zeroFilled (length file) (linesOf (recordsOf xs)) = λ xs e. ef ∙ ap (λ (ys : List Action). zeroFilled (length file) (linesOf (recordsOf ys))) e in
     let counts : (xs : List Action) → front ≡ xs → r ≡ countsOf (totalsOf (recordsOf xs)) (length (recordsOf xs)) (length (entriesOf xs)) =
     λ xs e. er ∙ ap (countsOf (totalsOf (recordsOf front)) (length (recordsOf front))) (l .starts) ∙ ap (λ (ys : List Action). countsOf (totalsOf (recordsOf ys)) (length (recordsOf ys)) (length (entriesOf ys))) e in
-    record { filed = λ s u. filled (withoutLatest (s .actions)) (sym (l .only s u)); counted = λ s u. counts (withoutLatest (s .actions)) (sym (l .only s u)) }
+    record { filed = λ k s u. filled (withoutLatest (s .actions)) (sym (l .only k s u)); counted = λ k s u. counts (withoutLatest (s .actions)) (sym (l .only k s u)) }
 
 -- an identifier that is present is found
-found-there : (n : ℕ) (recs : List (List ℕ)) → Sheet recs → (id : List ℕ) → isPresent recs id ≡ true → recordNumber (zeroFilled n (linesOf recs)) id (length recs) ≡ 0 → ⊥
+found-there : {known : Known} (n : ℕ) (recs : List (List ℕ)) → Sheet known recs → (id : List ℕ) → isPresent recs id ≡ true → recordNumber (zeroFilled n (linesOf recs)) id (length recs) ≡ 0 → ⊥
 found-there n recs s id p z =
     let none : not (eqb (recordNumber (zeroFilled n (linesOf recs)) id (length recs)) 0) ≡ false = rw (eq-eqb _ 0 z) in
     clash p (sym (present-view recs s _ id) ∙ none)
@@ -207,7 +211,7 @@ module _ (file journal : List ℕ) (c : Counts) (last : ℕ) where
   lent-is : (w : ℕ) → lent w ≡ take w (drop (last + 4) journal)
   lent-is w = ap (λ (k : ℕ). take k (drop (last + 4) journal)) (add-sub-cancel-left (last + 4) w)
 
-  module _ (front : List Action) (rec : List ℕ) (l : Latest file journal c last front (Addition rec)) where
+  module _ {known : Known} (front : List Action) (rec : List ℕ) (l : Latest known file journal c last front (Addition rec)) where
     added-body : lent 399 ≡ rec
     added-body = lent-is 399 ∙ body-read journal (c .used) last (l .within) (Addition rec) (l .entry)
 
@@ -220,7 +224,7 @@ module _ (file journal : List ℕ) (c : Counts) (last : ℕ) where
         ∙ (λ i. countsOf (oneLiveLess (l .totals i) (cashIn (added-body i)) (priceIn (added-body i))) (l .held i - 1) last)
         ∙ (λ i. countsOf (live-off n (recordsOf front) (l .sheet) rec (l .rule) i) (fewer i) last))
 
-  module _ (front : List Action) (id : List ℕ) (l : Latest file journal c last front (Cancellation id)) where
+  module _ {known : Known} (front : List Action) (id : List ℕ) (l : Latest known file journal c last front (Cancellation id)) where
     abbrev recs : List (List ℕ)
     recs = map (cancelledFor id) (recordsOf front)
 
@@ -233,7 +237,7 @@ module _ (file journal : List ℕ) (c : Counts) (last : ℕ) where
     cancelled-sought : Sought file c (lent 13)
     cancelled-sought = record {
       holding = l .holding;
-      there = λ z. found-there n recs (sheet-step posted posted-fit (recordsOf front) (n / 401) (Cancellation id) (l .sheet) (l .rule)) id
+      there = λ z. found-there n recs (sheet-step (posted known) (posted-fit known) (recordsOf front) (n / 401) (Cancellation id) (l .sheet) (l .rule)) id
           (struck-there n (recordsOf front) (l .sheet) id (l .rule)) (sym cancelled-same ∙ z);
     }
 
@@ -246,7 +250,7 @@ module _ (file journal : List ℕ) (c : Counts) (last : ℕ) where
         ∙ (λ i. countsOf (oneRevived (l .totals i) (cashIn (recordAt (l .filed i) (placeOf (l .filed i) (cancelled-body i) (l .held i)))) (priceIn (recordAt (l .filed i) (placeOf (l .filed i) (cancelled-body i) (l .held i))))) (l .held i) last)
         ∙ (λ i. countsOf (revived-off n (recordsOf front) (l .sheet) id (l .rule) i) (many i) last))
 
-  module _ (front : List Action) (rec : List ℕ) (l : Latest file journal c last front (Amendment rec)) where
+  module _ {known : Known} (front : List Action) (rec : List ℕ) (l : Latest known file journal c last front (Amendment rec)) where
     abbrev now : List (List ℕ)
     now = map (replacedBy rec) (recordsOf front)
 
@@ -254,7 +258,7 @@ module _ (file journal : List ℕ) (c : Counts) (last : ℕ) where
     wide = omega (arith, l .entry .within, entry-long (Amendment rec) (l .entry .size), l .within)
 
     sizes : allSized front ≡ true
-    sizes = turns-sized posted n (length journal) [] front (l .turns)
+    sizes = turns-sized (posted known) n (length journal) [] front (l .turns)
 
     front-entries : Entries journal last
     front-entries = record { acts = front; sizes = sizes; bytes = l .bytes; within = omega (arith, wide); room = omega (arith, wide); bounded = l .bounded }
@@ -277,8 +281,8 @@ module _ (file journal : List ℕ) (c : Counts) (last : ℕ) where
       old-is : old ≡ carriedFrom (idOf rec) (recordFrom journal 0) front
       old-is = ap (λ (k : ℕ). take k (drop (at + 4) journal)) (add-sub-cancel-left (at + 4) 399) ∙ b .is ∙ (λ i. carriedFrom (amended-id i) (recordFrom journal 0) (same-acts i))
 
-      was : Carried (idOf rec) (recordsOf front) old
-      was = subst (Carried (idOf rec) (recordsOf front)) (sym old-is) (carried-all (idOf rec) n (length journal) front (recordFrom journal 0) (l .turns))
+      was : Carried known (idOf rec) (recordsOf front) old
+      was = subst (Carried known (idOf rec) (recordsOf front)) (sym old-is) (carried-all known (idOf rec) n (length journal) front (recordFrom journal 0) (l .turns))
 
       amended-same : recordNumber file (idOf old) (c .held) ≡ recordNumber (zeroFilled n (linesOf now)) (idOf old) (length now)
       amended-same = λ i. recordNumber (l .filed i) (idOf old) (l .held i)
@@ -287,7 +291,7 @@ module _ (file journal : List ℕ) (c : Counts) (last : ℕ) where
       amended-sought = record {
         sought = record {
           holding = l .holding;
-          there = λ z. found-there n now (sheet-step posted posted-fit (recordsOf front) (n / 401) (Amendment rec) (l .sheet) (l .rule)) (idOf old)
+          there = λ z. found-there n now (sheet-step (posted known) (posted-fit known) (recordsOf front) (n / 401) (Amendment rec) (l .sheet) (l .rule)) (idOf old)
               (before-there n (recordsOf front) (l .sheet) (l .places) rec (l .rule) old was) (sym amended-same ∙ z);
         };
         long = before-long n (recordsOf front) (l .sheet) (l .places) rec (l .rule) old was;
@@ -305,10 +309,10 @@ module _ (file journal : List ℕ) (c : Counts) (last : ℕ) where
 -- ---- the ways out
 module _ (file journal : List ℕ) (c : Counts) (last : ℕ) (pre : Undoable file journal c last) where
   pub back-within : (last ≤ c .used) × (c .used ≤ length journal)
-  back-within = let l = known file journal c last pre .latest in (omega (arith, l .entry .within), l .within)
+  back-within = let l = latest-of file journal c last pre .latest in (omega (arith, l .entry .within), l .within)
 
   near : last < 2000000
-  near = let l = known file journal c last pre .latest in omega (arith, l .entry .within, l .within, l .bounded)
+  near = let l = latest-of file journal c last pre .latest in omega (arith, l .entry .within, l .within, l .bounded)
 
   pub body-fits : Fits w64 (last + 4)
   body-fits = record { fits = omega (arith, near) }
@@ -321,15 +325,15 @@ module _ (file journal : List ℕ) (c : Counts) (last : ℕ) (pre : Undoable fil
 
   pub back-id : last + 4 + 13 ≤ length journal
   back-id =
-      let k = known file journal c last pre in
+      let k = latest-of file journal c last pre in
       let l = k .latest in
       omega (arith, l .entry .within, entry-wide (k .act) (l .entry .size), l .within)
 
   module _ (kind : ℕ) (ek : kind ≡ kindAt journal (c .used) last) where
-    which : Which file journal c last kind
-    which = let k = known file journal c last pre in go (k .act) (k .latest)
+    which : Which (pre .known) file journal c last kind
+    which = let k = latest-of file journal c last pre in go (k .act) (k .latest)
       where
-        go : (a : Action) → Latest file journal c last (known file journal c last pre .front) a → Which file journal c last kind
+        go : (a : Action) → Latest (pre .known) file journal c last (latest-of file journal c last pre .front) a → Which (pre .known) file journal c last kind
         go (Addition rec) l = added (ek ∙ kind-read journal (c .used) last (l .within) (Addition rec) (l .entry)) _ rec l
         go (Cancellation id) l = cancelled (ek ∙ kind-read journal (c .used) last (l .within) (Cancellation id) (l .entry)) _ id l
         go (Amendment rec) l = amended (ek ∙ kind-read journal (c .used) last (l .within) (Amendment rec) (l .entry)) _ rec l
@@ -337,7 +341,7 @@ module _ (file journal : List ℕ) (c : Counts) (last : ℕ) (pre : Undoable fil
     pub addition-part : kind ≡ 1 → last + 4 + 399 ≤ length journal
     addition-part k = go which
       where
-        go : Which file journal c last kind → last + 4 + 399 ≤ length journal
+        go : Which (pre .known) file journal c last kind → last + 4 + 399 ≤ length journal
         go (added e front rec l) = omega (arith, l .entry .within, entry-long (Addition rec) (l .entry .size), l .within)
         go (cancelled e front id l) = absurd (omega (arith, k, e))
         go (amended e front rec l) = absurd (omega (arith, k, e))
@@ -345,7 +349,7 @@ module _ (file journal : List ℕ) (c : Counts) (last : ℕ) (pre : Undoable fil
     pub addition-asks : kind ≡ 1 → Added file c
     addition-asks k = go which
       where
-        go : Which file journal c last kind → Added file c
+        go : Which (pre .known) file journal c last kind → Added file c
         go (added e front rec l) = record { holding = l .holding; some = omega (arith, l .held, length-last (recordsOf front) rec) }
         go (cancelled e front id l) = absurd (omega (arith, k, e))
         go (amended e front rec l) = absurd (omega (arith, k, e))
@@ -353,7 +357,7 @@ module _ (file journal : List ℕ) (c : Counts) (last : ℕ) (pre : Undoable fil
     pub addition-done : kind ≡ 1 → (r : Counts) (file′ : List ℕ) → AdditionOff file c last (take (last + 4 + 399 - (last + 4)) (drop (last + 4) journal)) r file′ → TakenBack file journal c last r file′
     addition-done k r file′ o = go which
       where
-        go : Which file journal c last kind → TakenBack file journal c last r file′
+        go : Which (pre .known) file journal c last kind → TakenBack file journal c last r file′
         go (added e front rec l) = added-back file journal c last front rec l r file′ o
         go (cancelled e front id l) = absurd (omega (arith, k, e))
         go (amended e front rec l) = absurd (omega (arith, k, e))
@@ -361,7 +365,7 @@ module _ (file journal : List ℕ) (c : Counts) (last : ℕ) (pre : Undoable fil
     pub cancellation-asks : kind ≡ 2 → Sought file c (take (last + 4 + 13 - (last + 4)) (drop (last + 4) journal))
     cancellation-asks k = go which
       where
-        go : Which file journal c last kind → Sought file c (take (last + 4 + 13 - (last + 4)) (drop (last + 4) journal))
+        go : Which (pre .known) file journal c last kind → Sought file c (take (last + 4 + 13 - (last + 4)) (drop (last + 4) journal))
         go (added e front rec l) = absurd (omega (arith, k, e))
         go (cancelled e front id l) = cancelled-sought file journal c last front id l
         go (amended e front rec l) = absurd (omega (arith, k, e))
@@ -369,7 +373,7 @@ module _ (file journal : List ℕ) (c : Counts) (last : ℕ) (pre : Undoable fil
     pub cancellation-done : kind ≡ 2 → (r : Counts) (file′ : List ℕ) → CancellationOff file c last (take (last + 4 + 13 - (last + 4)) (drop (last + 4) journal)) r file′ → TakenBack file journal c last r file′
     cancellation-done k r file′ o = go which
       where
-        go : Which file journal c last kind → TakenBack file journal c last r file′
+        go : Which (pre .known) file journal c last kind → TakenBack file journal c last r file′
         go (added e front rec l) = absurd (omega (arith, k, e))
         go (cancelled e front id l) = cancelled-back file journal c last front id l r file′ o
         go (amended e front rec l) = absurd (omega (arith, k, e))
@@ -378,7 +382,7 @@ module _ (file journal : List ℕ) (c : Counts) (last : ℕ) (pre : Undoable fil
       pub before-asks : Entries journal last
       before-asks = go which
         where
-          go : Which file journal c last kind → Entries journal last
+          go : Which (pre .known) file journal c last kind → Entries journal last
           go (added e front rec l) = absurd (not1 e)
           go (cancelled e front id l) = absurd (not2 e)
           go (amended e front rec l) = front-entries file journal c last front rec l
@@ -390,7 +394,7 @@ module _ (file journal : List ℕ) (c : Counts) (last : ℕ) (pre : Undoable fil
         pub amendment-asks : Amended file c before
         amendment-asks = go which
           where
-            go : Which file journal c last kind → Amended file c before
+            go : Which (pre .known) file journal c last kind → Amended file c before
             go (added e front rec l) = absurd (not1 e)
             go (cancelled e front id l) = absurd (not2 e)
             go (amended e front rec l) = amended-sought file journal c last front rec l at b
@@ -398,7 +402,7 @@ module _ (file journal : List ℕ) (c : Counts) (last : ℕ) (pre : Undoable fil
         pub amendment-done : (r : Counts) (file′ : List ℕ) → AmendmentOff file c last before r file′ → TakenBack file journal c last r file′
         amendment-done r file′ o = go which
           where
-            go : Which file journal c last kind → TakenBack file journal c last r file′
+            go : Which (pre .known) file journal c last kind → TakenBack file journal c last r file′
             go (added e front rec l) = absurd (not1 e)
             go (cancelled e front id l) = absurd (not2 e)
             go (amended e front rec l) = amended-back file journal c last front rec l at b r file′ o

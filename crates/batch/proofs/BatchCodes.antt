@@ -10,6 +10,7 @@ use native.Mathlib.Omega.{arith}
 use borrow.Author.Tests.{eq-eqb, ne-eqb, eqb-true, eqb-false, ltb-false, le-ltb, leb-false, le-leb, lt-leb}
 use lib.Dec.{eqb, ltb, leb}
 use lib.ListN.{length}
+use Rattle.psc.specs.Table.{Known}
 use Rattle.text.specs.declared.Answer.{Answer}
 use Rattle.text.specs.Answers.{answer, accepted, orElse, wrongLength}
 use Rattle.text.proofs.Booleans.{clash, by-cond}
@@ -50,7 +51,7 @@ action-is v recs places (Cancellation id) = go (rightId id)
     go false = refl
 
 -- the answer to a body of its length has no code of the batch's own
-body-apart : (v : Verdict) → Fit v → (a : Action) → sized a ≡ true → lacks (bodyAnswer v a .code) batchCodes ≡ true
+body-apart : {known : Known} (v : Verdict) → Fit known v → (a : Action) → sized a ≡ true → lacks (bodyAnswer v a .code) batchCodes ≡ true
 unfolding lacks
 body-apart v fit (Addition rec) z = fit .others rec (eqb-true _ 399 z)
 body-apart v fit (Amendment rec) z = fit .others rec (eqb-true _ 399 z)
@@ -92,7 +93,7 @@ unfolding lacks
 never-room c l room a = by-cond (Never c) (leb (entryLength (kindOf a)) room) accepted (answer 231 0) (λ e. lacks-other c 0 roomCodes refl l) (λ e. lacks-other c 231 roomCodes refl l)
 
 -- ---- each code, of an action among these records
-module _ (v : Verdict) (fit : Fit v) (recs : List (List ℕ)) (places room : ℕ) (a : Action) where
+module _ {known : Known} (v : Verdict) (fit : Fit known v) (recs : List (List ℕ)) (places room : ℕ) (a : Action) where
   never-body : (c : ℕ) → lacks c batchCodes ≡ false → sized a ≡ true → Never c (bodyAnswer v a)
   never-body c own z e = lacks-other (bodyAnswer v a .code) c batchCodes own (body-apart v fit a z) (sym e)
 
@@ -200,7 +201,7 @@ where-stands v b call other {c} {p} {K} l e = go (meets v b call other)
     go (wrong-lengths w) = never-given (lacks-other c 235 (235 ∷ 237 ∷ []) refl l) (λ k. clash (k .stands .lengths) w)
     go (nothing w n) = never-given (lacks-other c 237 (235 ∷ 237 ∷ []) refl l) (λ k. n (k .standing) (k .stands))
     go (by-rules s st) =
-        in-words (λ k. record { standing = s; stands = st; meets = k }) (λ k. subst K (stands-once v b (k .standing) s (k .stands) st) (k .meets)) (e s)
+        in-words (λ k. record { standing = s; stands = st; meets = k }) (λ k. subst K (stands-once v v b (k .standing) s (k .stands) st) (k .meets)) (e s)
 
 -- ---- acceptance, undo and opening: of any verdict
 module _ (v : Verdict) (b : Batch) where
@@ -264,7 +265,7 @@ module _ (v : Verdict) (b : Batch) where
       (in-words (lengths-exactly _ _ .0) (lengths-exactly _ _ .1) (at-yes (rightLengths (fileLength b) (journalLength b)) accepted (answer 235 0) refl (λ f e. omega (arith, e))))
 
 -- ---- the other codes: of a verdict that is fit
-module _ (v : Verdict) (fit : Fit v) (b : Batch) where
+module _ {known : Known} (v : Verdict) (fit : Fit known v) (b : Batch) where
   abbrev n : ℕ
   n = fileLength b
 
@@ -381,7 +382,21 @@ module _ (v : Verdict) (fit : Fit v) (b : Batch) where
       by (inl e) = never-given (rw e of-opening) (λ k. k .other e)
       by (inr other) = go other (meets v b call other)
 
+  -- 238 is the lent table's alone
+  pub never-238 : (call : Call) → Never 238 (answerTo v b call)
+  unfolding lacks
+  never-238 call = by (opening-or-other call)
+    where
+      go : {a : Answer} → Meets v b call a → Never 238 a
+      go (wrong-lengths w) = λ e. omega (arith, e)
+      go (nothing w x) = λ e. omega (arith, e)
+      go (by-rules s st) = never-rules 238 refl refl refl refl refl s call
+
+      by : (call ≡ Open) ⊎ (call ≡ Open → ⊥) → Never 238 (answerTo v b call)
+      by (inl e) = rw (e, open-answers v b) (by-cond (Never 238) (rightLengths n m) accepted (answer 235 0) (λ t e. omega (arith, e)) (λ t e. omega (arith, e)))
+      by (inr other) = go (meets v b call other)
+
 -- ---- under the record's own verdict: each code of its table
-pub table-code-exactly : (b : Batch) (a : Action) (c : ℕ) → lacks c tableCodes ≡ false
-    → ExactlyAt c (bodyAnswer posted a .place) (SomeStands posted b (λ s. BodyMeets posted a c)) (answerTo posted b (callOf a))
-table-code-exactly b a c there = body-code-exactly posted posted-fit b a c (table-apart c there)
+pub table-code-exactly : (known : Known) (b : Batch) (a : Action) (c : ℕ) → lacks c tableCodes ≡ false
+    → ExactlyAt c (bodyAnswer (posted known) a .place) (SomeStands (posted known) b (λ s. BodyMeets (posted known) a c)) (answerTo (posted known) b (callOf a))
+table-code-exactly known b a c there = body-code-exactly (posted known) (posted-fit known) b a c (table-apart c there)

@@ -10,6 +10,8 @@ use borrow.Author.Tests.{eq-eqb, ne-eqb, eqb-true, eqb-false, le-leb, lt-leb, no
 use borrow.Rule.Slice.PartMut.{putMid, mid-len}
 use lib.Dec.{eqb}
 use lib.ListN.{length, take, drop, length-replicate}
+use Rattle.psc.specs.Table.{Known, holds}
+use Rattle.psc.specs.Search.{found}
 use Rattle.text.specs.declared.Answer.{Answer}
 use Rattle.text.specs.Answers.{answer, accepted, orElse}
 use Rattle.text.specs.Lists.{overlay}
@@ -25,34 +27,35 @@ use Rattle.batch.specs.Actions.{Action, numberOf, bodyOf, entriesOf}
 use Rattle.batch.specs.Places.{actionAnswer, actionFile}
 use Rattle.batch.specs.Entries.{bodyLength, entry}
 use Rattle.batch.specs.Records.{recordsOf}
-use Rattle.batch.specs.Rules.{posted, ruleBehind}
-use Rattle.batch.specs.Batch.{Batch, batchOf, noCounts, Call, Open, Add, Amend, Cancel, Undo, rightLengths, State, state, zeros, made, with, next, rules, Stands, answerTo, unchanged, after, Called}
+use Rattle.batch.specs.Rules.{Verdict, posted, ruleBehind}
+use Rattle.batch.specs.Batch.{Batch, batchOf, noCounts, Call, Open, Add, Amend, Cancel, Undo, rightLengths, State, state, zeros, made, with, next, rules, Stands, answerTo, unchanged, after, afterUnder, Promised, Called}
 use Rattle.batch.specs.Work.{entryAnswer, entered, Guarded, Acceptable, Countable, countsAfter, Ready, Worked}
 use Rattle.batch.proofs.StateWays.{lengths-bounded}
 use Rattle.batch.proofs.Verdicts.{posted-fit}
 use Rattle.batch.proofs.Made.{Fits, turns-fit, answered-by-rules, accepted-leaves}
 use Rattle.batch.proofs.Totals.{totals-view}
 use Rattle.batch.proofs.CallsMet.{open-answers, open-after}
+use Rattle.batch.proofs.LentTable.{right-answers, right-leaves, refused-leaves, looked-up}
 use Rattle.batch.proofs.Entering.{entry-ruled, entry-enters}
 
 -- ---- enter
-module _ (file journal body : List ℕ) (c : Counts) (kind n : ℕ) (pre : Ready file journal c) (en : (n ≡ bodyLength kind) × (13 ≤ n) × (n ≤ 399)) where
+module _ (known : Known) (file journal body : List ℕ) (c : Counts) (kind n : ℕ) (pre : Ready file journal c) (en : (n ≡ bodyLength kind) × (13 ≤ n) × (n ≤ 399)) where
   abbrev here : Batch
   here = batchOf file journal c
 
-  worked-by : (a : Answer) → entryAnswer here kind body ≡ a → (a .code ≡ 0 → ⊥) → Worked file journal c kind body (record { answer = a; counts = c }) file journal
+  worked-by : (a : Answer) → entryAnswer known here kind body ≡ a → (a .code ≡ 0 → ⊥) → Worked known file journal c kind body (record { answer = a; counts = c }) file journal
   worked-by a e z = record { answers = sym e; leaves = rw (e, ne-eqb (a .code) 0 z) }
 
-  pub enter-size : (length body ≡ n → ⊥) → Worked file journal c kind body (record { answer = answer 236 0; counts = c }) file journal
+  pub enter-size : (length body ≡ n → ⊥) → Worked known file journal c kind body (record { answer = answer 236 0; counts = c }) file journal
   unfolding entryAnswer
   enter-size m = worked-by (answer 236 0) (rw (← en .0, ne-eqb (length body) n m)) (λ e. omega (arith, e))
 
-  module _ (long : length body ≡ n) (a : Answer) (ea : a ≡ actionAnswer file (c .held) kind body) where
-    pub enter-refused : (a .code ≡ 0 → ⊥) → Worked file journal c kind body (record { answer = a; counts = c }) file journal
+  module _ (long : length body ≡ n) (a : Answer) (ea : a ≡ actionAnswer known file (c .held) kind body) where
+    pub enter-refused : (a .code ≡ 0 → ⊥) → Worked known file journal c kind body (record { answer = a; counts = c }) file journal
     unfolding entryAnswer orElse
     enter-refused z = worked-by a (rw (← en .0, eq-eqb (length body) n long, ← ea, ne-eqb (a .code) 0 z)) z
 
-    pub enter-full : a .code ≡ 0 → length journal - c .used < n + 4 → Worked file journal c kind body (record { answer = answer 231 0; counts = c }) file journal
+    pub enter-full : a .code ≡ 0 → length journal - c .used < n + 4 → Worked known file journal c kind body (record { answer = answer 231 0; counts = c }) file journal
     unfolding entryAnswer orElse
     enter-full z h =
         worked-by (answer 231 0)
@@ -60,7 +63,7 @@ module _ (file journal body : List ℕ) (c : Counts) (kind n : ℕ) (pre : Ready
         (λ e. omega (arith, e))
 
     pub enter-acceptable : a .code ≡ 0 → Acceptable file (c .held) kind body
-    enter-acceptable z = record { few = pre .few; fits = pre .fits; sized = long ∙ en .0; accepts = rw (← ea) z }
+    enter-acceptable z = record { few = pre .few; fits = pre .fits; sized = long ∙ en .0; known = known; accepts = rw (← ea) z }
 
     pub enter-countable : a .code ≡ 0 → Countable file c kind body
     enter-countable z = record {
@@ -71,11 +74,11 @@ module _ (file journal body : List ℕ) (c : Counts) (kind n : ℕ) (pre : Ready
 
     pub enter-done : (counts : Counts) (file′ journal′ : List ℕ) → a .code ≡ 0 → n + 4 ≤ length journal - c .used → counts ≡ countsAfter file c kind body
         → file′ ≡ actionFile file (c .held) kind body → journal′ ≡ overlay journal (c .used) (entry kind body)
-        → Worked file journal c kind body (record { answer = accepted; counts = counts }) file′ journal′
+        → Worked known file journal c kind body (record { answer = accepted; counts = counts }) file′ journal′
     unfolding entryAnswer orElse entered countsAfter
     enter-done counts file′ journal′ z h ec ef ej =
         let fits : c .used + (n + 4) ≤ length journal = omega (arith, pre .within) in
-        let e : entryAnswer here kind body ≡ accepted = rw (← en .0, eq-eqb (length body) n long, ← ea, eq-eqb (a .code) 0 z, le-leb (c .used + (n + 4)) (length journal) fits) in
+        let e : entryAnswer known here kind body ≡ accepted = rw (← en .0, eq-eqb (length body) n long, ← ea, eq-eqb (a .code) 0 z, le-leb (c .used + (n + 4)) (length journal) fits) in
         record { answers = sym e; leaves = rw (e, ec, ef, ej) }
 
 -- ---- behind the guard
@@ -89,10 +92,19 @@ isOpening Undo = false
 pub is-other : (call : Call) → isOpening call ≡ false → call ≡ Open → ⊥
 is-other call n e = clash (ap isOpening e) n
 
+-- a promise from its answer and the batch that is left
+left-as : {a r : Answer} {e : Batch} {counts : Counts} {file journal : List ℕ} → r ≡ a → batchOf file journal counts ≡ e → Promised a e r counts file journal
+left-as answered left = record {
+  answers = answered;
+  counted = ap (λ (x : Batch). x .counts) left;
+  filed = ap (λ (x : Batch). x .file) left;
+  journaled = ap (λ (x : Batch). x .journal) left;
+}
+
 -- the counts of a batch in which a state stands fit its buffers
-module _ (file journal : List ℕ) (c : Counts) (s : State) (st : Stands posted (batchOf file journal c) s) where
-  fits-so : Fits (length file) (length journal) (s .actions)
-  fits-so = turns-fit posted posted-fit (length file) (length journal) (s .actions) (st .turns)
+module _ (known : Known) (file journal : List ℕ) (c : Counts) (s : State) (st : Stands (posted known) (batchOf file journal c) s) where
+  fits-so : Fits known (length file) (length journal) (s .actions)
+  fits-so = turns-fit (posted known) (posted-fit known) (length file) (length journal) (s .actions) (st .turns)
 
   held-is : c .held ≡ length (recordsOf (s .actions))
   unfolding made
@@ -121,83 +133,73 @@ module _ (file journal : List ℕ) (c : Counts) (s : State) (st : Stands posted 
         room = bounds .1;
       }
 
-module _ (file journal : List ℕ) (c : Counts) (g : Gate) (eg : Guarded (batchOf file journal c) g) where
+module _ (psc file journal : List ℕ) (c : Counts) (g : Gate) (eg : Guarded psc (batchOf file journal c) g) where
   abbrev this : Batch
   this = batchOf file journal c
 
+  abbrev v : Verdict
+  v = posted (found psc)
+
   pub guard-ready : g .answer .code ≡ 0 → Ready file journal c
-  guard-ready z = let f = eg .if-so z in stands-ready file journal c (f .what) (f .stands)
+  guard-ready z = let f = eg .if-so z .found in stands-ready (found psc) file journal c (f .what) (f .stands)
 
   module _ (call : Call) (other : call ≡ Open → ⊥) (ek : unchanged this call ≡ this) where
-    pub refused-as : (a : Answer) → answerTo posted this call ≡ a → (a .code ≡ 0 → ⊥) → Called this call a c file journal
-    unfolding after
-    refused-as a e z =
-        let same : after posted this call ≡ this = rw (e, ne-eqb (a .code) 0 z) ek in
-        record { answers = sym e; counted = ap (λ (x : Batch). x .counts) (sym same); filed = ap (λ (x : Batch). x .file) (sym same); journaled = ap (λ (x : Batch). x .journal) (sym same) }
+    pub guard-refuses : (g .answer .code ≡ 0 → ⊥) → Called psc this call (g .answer) c file journal
+    guard-refuses z =
+        let answered = eg .if-not z call other in
+        let same : afterUnder psc this call ≡ this = refused-leaves psc this call (λ q. z (ap (λ (a : Answer). a .code) (sym answered) ∙ q)) ∙ ek in
+        left-as (sym answered) (sym same)
 
-    left-alone : {a : Answer} → (a .code ≡ 0 → ⊥) → answerTo posted this call ≡ a → after posted this call ≡ this
-    unfolding after
-    left-alone {a} n e = rw (e, ne-eqb (a .code) 0 n) ek
+    module _ (z : g .answer .code ≡ 0) where
+      pub done-as : (r : Answer) (counts : Counts) (file′ journal′ : List ℕ) → r ≡ answerTo v this call → batchOf file′ journal′ counts ≡ after v this call → Called psc this call r counts file′ journal′
+      done-as r counts file′ journal′ answered left = looked-up psc this call r counts file′ journal′ (eg .if-so z .right) (left-as answered left)
 
-    pub guard-refuses : (g .answer .code ≡ 0 → ⊥) → Called this call (g .answer) c file journal
-    guard-refuses z = refused-as (g .answer) (eg .if-not z call other) z
+      left-alone : {a : Answer} → (a .code ≡ 0 → ⊥) → answerTo v this call ≡ a → after v this call ≡ this
+      unfolding after
+      left-alone {a} n e = rw (e, ne-eqb (a .code) 0 n) ek
 
-    -- an action, by what its work left: one law for add, amend and cancel
-    pub work-done : (a : Action) (r : Outcome) (file′ journal′ : List ℕ) → ((s : State) → rules posted (length file) (length journal) s call ≡ ruleBehind posted (length file) (length journal) (s .actions) a) → ((s : State) → next s call ≡ with s a)
-        → g .answer .code ≡ 0 → Worked file journal c (numberOf a) (bodyOf a) r file′ journal′ → Called this call (r .answer) (r .counts) file′ journal′
-    work-done a r file′ journal′ er en z w =
-        let f = eg .if-so z in
-        let s = f .what in
-        let st = f .stands in
-        let answered : answerTo posted this call ≡ entryAnswer this (numberOf a) (bodyOf a) = answered-by-rules posted this s st call ∙ er s ∙ sym (entry-ruled this s st a) in
-        let left : batchOf file′ journal′ (r .counts) ≡ after posted this call = w .leaves ∙ go s st answered (eqb (entryAnswer this (numberOf a) (bodyOf a) .code) 0) refl in
-        record {
-          answers = w .answers ∙ sym answered;
-          counted = ap (λ (x : Batch). x .counts) left;
-          filed = ap (λ (x : Batch). x .file) left;
-          journaled = ap (λ (x : Batch). x .journal) left;
-        }
-      where
-        go : (s : State) (st : Stands posted this s) → answerTo posted this call ≡ entryAnswer this (numberOf a) (bodyOf a) → (t : Bool) → eqb (entryAnswer this (numberOf a) (bodyOf a) .code) 0 ≡ t
-            → cond t (entered this (numberOf a) (bodyOf a)) this ≡ after posted this call
-        go s st e true q =
-            let zero : ruleBehind posted (length file) (length journal) (s .actions) a .code ≡ 0 = ap (λ (x : Answer). x .code) (sym (entry-ruled this s st a)) ∙ eqb-true _ 0 q in
-            entry-enters this s st a zero ∙ ap (made (length file) (length journal)) (sym (en s))
-            ∙ sym (accepted-leaves posted this s st call (ap (λ (x : Answer). x .code) (er s) ∙ zero))
-        go s st e false q = sym (left-alone (eqb-false _ 0 q) e)
+      pub refused-as : (a : Answer) → answerTo v this call ≡ a → (a .code ≡ 0 → ⊥) → Called psc this call a c file journal
+      refused-as a e n = done-as a c file journal (sym e) (sym (left-alone n e))
+
+      -- an action, by what its work left: one law for add, amend and cancel
+      pub work-done : (a : Action) (r : Outcome) (file′ journal′ : List ℕ) → ((s : State) → rules v (length file) (length journal) s call ≡ ruleBehind v (length file) (length journal) (s .actions) a) → ((s : State) → next s call ≡ with s a)
+          → Worked (found psc) file journal c (numberOf a) (bodyOf a) r file′ journal′ → Called psc this call (r .answer) (r .counts) file′ journal′
+      work-done a r file′ journal′ er en w =
+          let f = eg .if-so z .found in
+          let s = f .what in
+          let st = f .stands in
+          let answered : answerTo v this call ≡ entryAnswer (found psc) this (numberOf a) (bodyOf a) = answered-by-rules v this s st call ∙ er s ∙ sym (entry-ruled (found psc) this s st a) in
+          done-as (r .answer) (r .counts) file′ journal′ (w .answers ∙ sym answered) (w .leaves ∙ go s st answered (eqb (entryAnswer (found psc) this (numberOf a) (bodyOf a) .code) 0) refl)
+        where
+          go : (s : State) (st : Stands v this s) → answerTo v this call ≡ entryAnswer (found psc) this (numberOf a) (bodyOf a) → (t : Bool) → eqb (entryAnswer (found psc) this (numberOf a) (bodyOf a) .code) 0 ≡ t
+              → cond t (entered this (numberOf a) (bodyOf a)) this ≡ after v this call
+          go s st e true q =
+              let zero : ruleBehind v (length file) (length journal) (s .actions) a .code ≡ 0 = ap (λ (x : Answer). x .code) (sym (entry-ruled (found psc) this s st a)) ∙ eqb-true _ 0 q in
+              entry-enters (found psc) this s st a zero ∙ ap (made (length file) (length journal)) (sym (en s))
+              ∙ sym (accepted-leaves v this s st call (ap (λ (x : Answer). x .code) (er s) ∙ zero))
+          go s st e false q = sym (left-alone (eqb-false _ 0 q) e)
 
 -- ---- open
 opening : (n m : ℕ) → made n m (state []) ≡ batchOf (zeros n) (zeros m) noCounts
 unfolding made kept
 opening n m = λ i. batchOf (zeros (sub-zero n i)) (zeros (sub-zero m i)) noCounts
 
-opens-as : (file journal : List ℕ) (b e : Bool) → b ≡ rightLengths (length file) (length journal) → b ≡ e → rightLengths (length file) (length journal) ≡ e
-opens-as file journal b e r q = sym r ∙ q
+-- under any table: it takes none
+module _ (psc file journal : List ℕ) (k : Counts) (b : Bool) (ek : k ≡ noCounts) (e : b ≡ rightLengths (length file) (length journal)) where
+  opens-as : (r : Answer) (left : Batch) → r ≡ answerTo (posted (holds psc)) (batchOf file journal noCounts) Open → left ≡ after (posted (holds psc)) (batchOf file journal noCounts) Open → Called psc (batchOf file journal noCounts) Open r (left .counts) (left .file) (left .journal)
+  opens-as r left answered is =
+      left-as (answered ∙ sym (right-answers psc (batchOf file journal noCounts) Open refl)) (is ∙ sym (right-leaves psc (batchOf file journal noCounts) Open refl))
 
-pub open-refused : (file journal : List ℕ) (k : Counts) (b : Bool) → k ≡ noCounts → b ≡ rightLengths (length file) (length journal) → not b ≡ true
-    → Called (batchOf file journal noCounts) Open (answer 235 0) k file journal
-open-refused file journal k b ek e n =
-    let short = opens-as file journal b false e (not-true b n) in
-    let same : after posted (batchOf file journal noCounts) Open ≡ batchOf file journal noCounts = open-after posted (batchOf file journal noCounts) ∙ rw short in
-    record {
-      answers = sym (open-answers posted (batchOf file journal noCounts) ∙ rw short);
-      counted = ek ∙ ap (λ (x : Batch). x .counts) (sym same);
-      filed = ap (λ (x : Batch). x .file) (sym same);
-      journaled = ap (λ (x : Batch). x .journal) (sym same);
-    }
+  pub open-refused : not b ≡ true → Called psc (batchOf file journal noCounts) Open (answer 235 0) k file journal
+  open-refused n =
+      let short : rightLengths (length file) (length journal) ≡ false = sym e ∙ not-true b n in
+      rw ek (opens-as (answer 235 0) (batchOf file journal noCounts) (sym (open-answers (posted (holds psc)) (batchOf file journal noCounts) ∙ rw short)) (sym (open-after (posted (holds psc)) (batchOf file journal noCounts) ∙ rw short)))
 
-pub open-done : (file journal file′ journal′ : List ℕ) (k : Counts) (b : Bool) → k ≡ noCounts → b ≡ rightLengths (length file) (length journal) → not b ≡ false
-    → file′ ≡ zeros (length file) → journal′ ≡ zeros (length journal) → Called (batchOf file journal noCounts) Open accepted k file′ journal′
-open-done file journal file′ journal′ k b ek e n ef ej =
-    let long = opens-as file journal b true e (not-false b n) in
-    let same : after posted (batchOf file journal noCounts) Open ≡ batchOf (zeros (length file)) (zeros (length journal)) noCounts =
-    open-after posted (batchOf file journal noCounts) ∙ rw long (opening (length file) (length journal)) in
-    record {
-      answers = sym (open-answers posted (batchOf file journal noCounts) ∙ rw long);
-      counted = ek ∙ ap (λ (x : Batch). x .counts) (sym same);
-      filed = ef ∙ ap (λ (x : Batch). x .file) (sym same);
-      journaled = ej ∙ ap (λ (x : Batch). x .journal) (sym same);
-    }
+  pub open-done : (file′ journal′ : List ℕ) → not b ≡ false → file′ ≡ zeros (length file) → journal′ ≡ zeros (length journal) → Called psc (batchOf file journal noCounts) Open accepted k file′ journal′
+  open-done file′ journal′ n ef ej =
+      let long : rightLengths (length file) (length journal) ≡ true = sym e ∙ not-false b n in
+      rw (ek, ef, ej)
+      (opens-as accepted (batchOf (zeros (length file)) (zeros (length journal)) noCounts) (sym (open-answers (posted (holds psc)) (batchOf file journal noCounts) ∙ rw long)) (sym (open-after (posted (holds psc)) (batchOf file journal noCounts) ∙ rw long (opening (length file) (length journal)))))
 
 -- ---- undo
 pub entry-cleared : (journal part : List ℕ) (last used : ℕ) → (last ≤ used) × (used ≤ length journal) → part ≡ zeros (length (take (used - last) (drop last journal)))

@@ -8,6 +8,7 @@ use native.Mathlib.Omega.{arith}
 use borrow.Author.Tests.{leb-true, leb-false, le-leb, lt-leb}
 use lib.Dec.{eqb, leb}
 use lib.ListN.{length, length-append}
+use Rattle.psc.specs.Table.{Known}
 use Rattle.text.specs.Lists.{overlay}
 use Rattle.posting.specs.declared.Totals.{Totals}
 use Rattle.posting.specs.Sums.{totalsOf}
@@ -54,15 +55,15 @@ held-step recs (Cancellation id) = sym (length-map (cancelledFor id) recs)
 batch-eq : {f f′ j j′ : List ℕ} {t t′ : Totals} {h h′ u u′ : ℕ} → f ≡ f′ → j ≡ j′ → t ≡ t′ → h ≡ h′ → u ≡ u′ → batchOf f j (countsOf t h u) ≡ batchOf f′ j′ (countsOf t′ h′ u′)
 batch-eq ef ej et eh eu = λ i. batchOf (ef i) (ej i) (countsOf (et i) (eh i) (eu i))
 
-module _ (n m : ℕ) (xs : List Action) (f : Fits n m xs) (a : Action) where
-  made-ruled : entryAnswer (made n m (state xs)) (numberOf a) (bodyOf a) ≡ ruleBehind posted n m xs a
+module _ {known : Known} (n m : ℕ) (xs : List Action) (f : Fits known n m xs) (a : Action) where
+  made-ruled : entryAnswer known (made n m (state xs)) (numberOf a) (bodyOf a) ≡ ruleBehind (posted known) n m xs a
   unfolding made entryAnswer entryRule
   made-ruled = rw (size-same a, answer-view n (recordsOf xs) (f .sheet) (f .places) a, journal-long n m xs f, length-same a, room-left (length (entriesOf xs)) (Actions.entryLength (kindOf a)) m (f .room))
 
-  made-entered : ruleBehind posted n m xs a .code ≡ 0 → entered (made n m (state xs)) (numberOf a) (bodyOf a) ≡ made n m (state (xs ++ a ∷ []))
+  made-entered : ruleBehind (posted known) n m xs a .code ≡ 0 → entered (made n m (state xs)) (numberOf a) (bodyOf a) ≡ made n m (state (xs ++ a ∷ []))
   unfolding made entered
   made-entered z =
-      let ok = accepted-if posted (recordsOf xs) (n / 401) (m - length (entriesOf xs)) a z in
+      let ok = accepted-if (posted known) (recordsOf xs) (n / 401) (m - length (entriesOf xs)) a z in
       let recs : recordsAfter (recordsOf xs) a ≡ recordsOf (xs ++ a ∷ []) = sym (records-last [] xs a) in
       let entries : entriesOf xs ++ entryOf a ≡ entriesOf (xs ++ a ∷ []) = sym (entries-last xs a) in
       let used : length (entriesOf xs) + entryLength (numberOf a) ≡ length (entriesOf (xs ++ a ∷ [])) =
@@ -74,12 +75,12 @@ module _ (n m : ℕ) (xs : List Action) (f : Fits n m xs) (a : Action) where
       used
 
 -- of any batch in which a state stands
-module _ (b : Batch) (s : State) (st : Stands posted b s) (a : Action) where
-  fits-so : Fits (fileLength b) (journalLength b) (s .actions)
-  fits-so = turns-fit posted posted-fit (fileLength b) (journalLength b) (s .actions) (st .turns)
+module _ (known : Known) (b : Batch) (s : State) (st : Stands (posted known) b s) (a : Action) where
+  fits-so : Fits known (fileLength b) (journalLength b) (s .actions)
+  fits-so = turns-fit (posted known) (posted-fit known) (fileLength b) (journalLength b) (s .actions) (st .turns)
 
-  pub entry-ruled : entryAnswer b (numberOf a) (bodyOf a) ≡ ruleBehind posted (fileLength b) (journalLength b) (s .actions) a
-  entry-ruled = ap (λ (x : Batch). entryAnswer x (numberOf a) (bodyOf a)) (st .is) ∙ made-ruled (fileLength b) (journalLength b) (s .actions) fits-so a
+  pub entry-ruled : entryAnswer known b (numberOf a) (bodyOf a) ≡ ruleBehind (posted known) (fileLength b) (journalLength b) (s .actions) a
+  entry-ruled = ap (λ (x : Batch). entryAnswer known x (numberOf a) (bodyOf a)) (st .is) ∙ made-ruled (fileLength b) (journalLength b) (s .actions) fits-so a
 
-  pub entry-enters : ruleBehind posted (fileLength b) (journalLength b) (s .actions) a .code ≡ 0 → entered b (numberOf a) (bodyOf a) ≡ made (fileLength b) (journalLength b) (with s a)
+  pub entry-enters : ruleBehind (posted known) (fileLength b) (journalLength b) (s .actions) a .code ≡ 0 → entered b (numberOf a) (bodyOf a) ≡ made (fileLength b) (journalLength b) (with s a)
   entry-enters z = ap (λ (x : Batch). entered x (numberOf a) (bodyOf a)) (st .is) ∙ made-entered (fileLength b) (journalLength b) (s .actions) fits-so a z

@@ -1,7 +1,7 @@
 -- The guard of the calls, and writing entries: each way out of the functions.
 -- Assumes nothing.
 use Prim.Native.Nat.{ℕ, _+_, _-_, _≤_}
-use mathlib.Core.Path.{_≡_, refl, sym, _∙_}
+use mathlib.Core.Path.{_≡_, refl, sym, _∙_, subst}
 use mathlib.Core.Bool.{Bool, true, false, cond, not}
 use mathlib.Core.Option.{Option, none, some}
 use mathlib.Core.List.{List, [], _∷_, _++_, append-nil}
@@ -11,57 +11,90 @@ use borrow.Rule.Slice.PartMut.{putMid}
 use lib.Dec.{eqb}
 use lib.ListN.{length, getD, take, drop, set, drop-of-length-le}
 use lib.Seq.{take-all, length-take-le}
+use Rattle.psc.specs.Table.{rightTable, wrongTable, Known, holds}
+use Rattle.psc.specs.Search.{found}
+use Rattle.psc.proofs.SearchLaws.{found-is-holds}
 use Rattle.text.specs.Answers.{answer, accepted}
 use Rattle.text.specs.Lists.{overlay}
 use Rattle.text.proofs.Lists.{spelled, put-is}
 use Rattle.batch.specs.declared.Counts.{Counts}
 use Rattle.batch.specs.declared.test.Finding.{Finding}
 use Rattle.batch.specs.Entries.{head, entry}
-use Rattle.batch.specs.Rules.{posted}
-use Rattle.batch.specs.Batch.{Batch, batchOf, rightLengths, fileLength, journalLength, Call, Open, Add, Amend, Cancel, Undo, State, standsIn, Stands, answerTo}
+use Rattle.batch.specs.Rules.{Verdict, posted}
+use Rattle.batch.specs.Batch.{Batch, batchOf, rightLengths, fileLength, journalLength, Call, Open, Add, Amend, Cancel, Undo, State, standsIn, Stands, answerTo, answerUnder}
 use Rattle.batch.specs.Test.{Tested}
 use Rattle.batch.specs.Work.{Guarded}
 use Rattle.batch.proofs.Standing.{stands-exactly}
+use Rattle.batch.proofs.LentTable.{right-answers, none-met}
 
 -- ---- guard
-short-answer : (b : Batch) → rightLengths (fileLength b) (journalLength b) ≡ false → (call : Call) → answerTo posted b call ≡ answer 235 0
-unfolding answerTo
-short-answer b e call = rw e
+-- what is met first is the answer to every call but opening
+module _ (psc : List ℕ) (b : Batch) where
+  short-answer : rightLengths (fileLength b) (journalLength b) ≡ false → (call : Call) → (call ≡ Open → ⊥) → answerUnder psc b call ≡ answer 235 0
+  unfolding answerUnder answerTo
+  short-answer e Open other = absurd (other refl)
+  short-answer e (Add rec) other = rw e
+  short-answer e (Amend rec) other = rw e
+  short-answer e (Cancel id) other = rw e
+  short-answer e Undo other = rw e
 
-pub guard-short : (file journal : List ℕ) (c : Counts) (r : Bool) → r ≡ rightLengths (length file) (length journal) → not r ≡ true → Guarded (batchOf file journal c) (record { answer = answer 235 0; last = 0 })
-guard-short file journal c r e n = record {
-  if-so = λ z. absurd (omega (arith, z));
-  if-not = λ z call other. short-answer (batchOf file journal c) (sym e ∙ not-true r n) call;
-}
+  table-answer : rightLengths (fileLength b) (journalLength b) ≡ true → rightTable psc ≡ false → (call : Call) → (call ≡ Open → ⊥) → answerUnder psc b call ≡ wrongTable
+  unfolding answerUnder
+  table-answer good w Open other = absurd (other refl)
+  table-answer good w (Add rec) other = rw (good, w)
+  table-answer good w (Amend rec) other = rw (good, w)
+  table-answer good w (Cancel id) other = rw (good, w)
+  table-answer good w Undo other = rw (good, w)
 
-nothing-stands : (b : Batch) → ((s : State) → Stands posted b s → ⊥) → standsIn posted b ≡ none
-nothing-stands b never = go (standsIn posted b) refl
+nothing-stands : (v : Verdict) (b : Batch) → ((s : State) → Stands v b s → ⊥) → standsIn v b ≡ none
+nothing-stands v b never = go (standsIn v b) refl
   where
-    go : (o : Option State) → standsIn posted b ≡ o → o ≡ none
+    go : (o : Option State) → standsIn v b ≡ o → o ≡ none
     go none e = refl
-    go (some s) e = absurd (never s (stands-exactly posted b s .0 e))
+    go (some s) e = absurd (never s (stands-exactly v b s .0 e))
 
-none-answer : (b : Batch) → rightLengths (fileLength b) (journalLength b) ≡ true → standsIn posted b ≡ none → (call : Call) → (call ≡ Open → ⊥) → answerTo posted b call ≡ answer 237 0
+none-answer : (v : Verdict) (b : Batch) → rightLengths (fileLength b) (journalLength b) ≡ true → standsIn v b ≡ none → (call : Call) → (call ≡ Open → ⊥) → answerTo v b call ≡ answer 237 0
 unfolding answerTo
-none-answer b good e Open other = absurd (other refl)
-none-answer b good e (Add rec) other = rw (good, e)
-none-answer b good e (Amend rec) other = rw (good, e)
-none-answer b good e (Cancel id) other = rw (good, e)
-none-answer b good e Undo other = rw (good, e)
+none-answer v b good e Open other = absurd (other refl)
+none-answer v b good e (Add rec) other = rw (good, e)
+none-answer v b good e (Amend rec) other = rw (good, e)
+none-answer v b good e (Cancel id) other = rw (good, e)
+none-answer v b good e Undo other = rw (good, e)
 
-module _ (file journal : List ℕ) (c : Counts) (r : Bool) (e : r ≡ rightLengths (length file) (length journal)) (n : not r ≡ false) where
-  pub guard-long : rightLengths (length file) (length journal) ≡ true
-  guard-long = sym e ∙ not-false r n
+module _ (psc file journal : List ℕ) (c : Counts) (r : Bool) (e : r ≡ rightLengths (length file) (length journal)) where
+  pub guard-short : not r ≡ true → Guarded psc (batchOf file journal c) (record { answer = answer 235 0; last = 0 })
+  guard-short n = record {
+    if-so = λ z. absurd (omega (arith, z));
+    if-not = λ z. short-answer psc (batchOf file journal c) (sym e ∙ not-true r n);
+  }
 
-  module _ (f : Finding) (t : Tested (batchOf file journal c) f) where
-    pub guard-nothing : not (f .stands) ≡ true → Guarded (batchOf file journal c) (record { answer = answer 237 0; last = 0 })
-    guard-nothing x = record {
-      if-so = λ z. absurd (omega (arith, z));
-      if-not = λ z call other. none-answer (batchOf file journal c) guard-long (nothing-stands (batchOf file journal c) (t .if-not (not-true (f .stands) x))) call other;
-    }
+  module _ (n : not r ≡ false) where
+    pub guard-long : rightLengths (length file) (length journal) ≡ true
+    guard-long = sym e ∙ not-false r n
 
-    pub guard-found : not (f .stands) ≡ false → Guarded (batchOf file journal c) (record { answer = accepted; last = f .last })
-    guard-found x = record { if-so = λ z. t .if-so (not-false (f .stands) x); if-not = λ z. absurd (z refl) }
+    module _ (t : Bool) (et : t ≡ rightTable psc) where
+      pub guard-table : not t ≡ true → Guarded psc (batchOf file journal c) (record { answer = wrongTable; last = 0 })
+      guard-table w = record {
+        if-so = λ z. absurd (omega (arith, z));
+        if-not = λ z. table-answer psc (batchOf file journal c) guard-long (sym et ∙ not-true t w);
+      }
+
+      module _ (w : not t ≡ false) (f : Finding) (d : Tested (found psc) (batchOf file journal c) f) where
+        right : rightTable psc ≡ true
+        right = sym et ∙ not-false t w
+
+        pub guard-nothing : not (f .stands) ≡ true → Guarded psc (batchOf file journal c) (record { answer = answer 237 0; last = 0 })
+        guard-nothing x =
+            let b = batchOf file journal c in
+            let never : (s : State) → Stands (posted (holds psc)) b s → ⊥ =
+            λ s st. d .if-not (not-true (f .stands) x) s (subst (λ (k : Known). Stands (posted k) b s) (sym (found-is-holds psc right)) st) in
+            record {
+              if-so = λ z. absurd (omega (arith, z));
+              if-not = λ z call other. right-answers psc b call (none-met psc b call right) ∙ none-answer (posted (holds psc)) b guard-long (nothing-stands (posted (holds psc)) b never) call other;
+            }
+
+        pub guard-found : not (f .stands) ≡ false → Guarded psc (batchOf file journal c) (record { answer = accepted; last = f .last })
+        guard-found x = record { if-so = λ z. record { right = right; found = d .if-so (not-false (f .stands) x) }; if-not = λ z. absurd (z refl) }
 
 -- ---- writing entries
 pub copied-all : (s t u : List ℕ) (i : ℕ) → length s ≡ length t → length t ≤ i → i ≤ length t → u ≡ take i t ++ drop i s → u ≡ t

@@ -9,6 +9,7 @@ use native.Mathlib.Omega.{arith}
 use borrow.Author.Tests.{eqb-true, eqb-false}
 use lib.Dec.{eqb, leb}
 use lib.ListN.{length}
+use Rattle.psc.specs.Table.{Known}
 use Rattle.text.specs.declared.Answer.{Answer}
 use Rattle.text.specs.Answers.{accepted, orElse}
 use Rattle.text.proofs.Booleans.{by-cond}
@@ -72,7 +73,7 @@ pub performed : (v : Verdict) (n m : ℕ) (xs : List Action) → inTurn v n m xs
 performed v n m xs t = let p = perform v n m [] xs t in record { answers = p .answers; stands = p .stands }
 
 -- ---- one call on what a state makes, by the rules
-module _ (v : Verdict) (fit : Fit v) (n m : ℕ) (good : rightLengths n m ≡ true) (s : State) (t : inTurn v n m (s .actions) ≡ true) where
+module _ {known : Known} (v : Verdict) (fit : Fit known v) (n m : ℕ) (good : rightLengths n m ≡ true) (s : State) (t : inTurn v n m (s .actions) ≡ true) where
   pub stands-here : Stands v (made n m s) s
   stands-here = made-stands v fit n m good s t
 
@@ -119,7 +120,7 @@ some-stands : (xs : List Action) (a : Action) → undoRule (xs ++ a ∷ []) ≡ 
 some-stands [] a = refl
 some-stands (x ∷ xs) a = refl
 
-module _ (v : Verdict) (fit : Fit v) (b : Batch) (a : Action) (z : answerTo v b (callOf a) .code ≡ 0) where
+module _ {known : Known} (v : Verdict) (fit : Fit known v) (b : Batch) (a : Action) (z : answerTo v b (callOf a) .code ≡ 0) where
   pub undo-gives-back : Undoes v b (after v b (callOf a))
   unfolding rules
   undo-gives-back =

@@ -9,6 +9,7 @@ use native.Mathlib.Omega.{arith}
 use borrow.Author.Tests.{eq-eqb, eqb-true, eqb-false, leb-true}
 use lib.Dec.{eqb, leb}
 use lib.ListN.{length, length-append}
+use Rattle.psc.specs.Table.{Known}
 use Rattle.text.specs.declared.Answer.{Answer}
 use Rattle.text.specs.Answers.{orElse}
 use Rattle.text.proofs.Booleans.{by-cond}
@@ -54,35 +55,35 @@ accepted-if v recs places room a =
 
 -- ---- along a list
 -- what a list makes fits its buffers, and its records may stand in a batch
-pub record Fits (n m : ℕ) (xs : List Action) : Type 0 where
-  pub sheet : Sheet (recordsOf xs)
+pub record Fits (known : Known) (n m : ℕ) (xs : List Action) : Type 0 where
+  pub sheet : Sheet known (recordsOf xs)
   pub places : length (recordsOf xs) * 401 ≤ n
   pub room : length (entriesOf xs) ≤ m
 
-pub none-fits : (n m : ℕ) → Fits n m []
+pub none-fits : {known : Known} (n m : ℕ) → Fits known n m []
 none-fits n m = record { sheet = sheet-none; places = omega arith; room = omega arith }
 
-module _ (v : Verdict) (fit : Fit v) (n m : ℕ) where
-  pub fits-last : (xs : List Action) (a : Action) → Fits n m xs → ruleBehind v n m xs a .code ≡ 0 → Fits n m (xs ++ a ∷ [])
+module _ {known : Known} (v : Verdict) (fit : Fit known v) (n m : ℕ) where
+  pub fits-last : (xs : List Action) (a : Action) → Fits known n m xs → ruleBehind v n m xs a .code ≡ 0 → Fits known n m (xs ++ a ∷ [])
   fits-last xs a f z =
       let ok = accepted-if v (recordsOf xs) (n / 401) (m - length (entriesOf xs)) a z in
       let recs = sym (records-last [] xs a) in
       let long = ap length (entries-last xs a) ∙ length-append (entriesOf xs) (entryOf a) in
       record {
-        sheet = subst Sheet recs (sheet-step v fit (recordsOf xs) (n / 401) a (f .sheet) (ok .rule));
+        sheet = subst (Sheet known) recs (sheet-step v fit (recordsOf xs) (n / 401) a (f .sheet) (ok .rule));
         places = subst (λ (r : List (List ℕ)). length r * 401 ≤ n) recs (fits-step v n (recordsOf xs) a (f .places) (ok .rule));
         room = omega (arith, long, entry-long a (ok .size), ok .fits, f .room);
       }
 
-  fits-behind : (before xs : List Action) → Fits n m before → inTurnBehind v n m before xs ≡ true → Fits n m (before ++ xs)
+  fits-behind : (before xs : List Action) → Fits known n m before → inTurnBehind v n m before xs ≡ true → Fits known n m (before ++ xs)
   unfolding inTurnBehind
-  fits-behind before [] f t = subst (Fits n m) (sym (append-nil before)) f
+  fits-behind before [] f t = subst (Fits known n m) (sym (append-nil before)) f
   fits-behind before (a ∷ xs) f t =
       let p = and-eq-true-iff (eqb (ruleBehind v n m before a .code) 0) (inTurnBehind v n m (before ++ a ∷ []) xs) .0 t in
-      subst (Fits n m) (append-assoc before (a ∷ []) xs)
+      subst (Fits known n m) (append-assoc before (a ∷ []) xs)
       (fits-behind (before ++ a ∷ []) xs (fits-last before a f (eqb-true _ 0 (p .0))) (p .1))
 
-  pub turns-fit : (xs : List Action) → inTurn v n m xs ≡ true → Fits n m xs
+  pub turns-fit : (xs : List Action) → inTurn v n m xs ≡ true → Fits known n m xs
   turns-fit xs t = fits-behind [] xs (none-fits n m) t
 
 -- ---- acceptable in its turn, one action more and one less
@@ -114,7 +115,7 @@ module _ (v : Verdict) (n m : ℕ) where
   turns-next s Undo t z = turns-front-behind [] (s .actions) t
 
 -- ---- what a list makes has the lengths of its buffers
-module _ (n m : ℕ) (xs : List Action) (f : Fits n m xs) where
+module _ {known : Known} (n m : ℕ) (xs : List Action) (f : Fits known n m xs) where
   pub lines-long : length (linesOf (recordsOf xs)) ≡ length (recordsOf xs) * 401
   lines-long = all-lines-long (recordsOf xs) (λ i h. f .sheet .each i h .long)
 
@@ -133,7 +134,7 @@ module _ (n m : ℕ) (xs : List Action) (f : Fits n m xs) where
   made-journal-long = journal-long
 
 -- ---- the list stands in what it makes
-module _ (v : Verdict) (fit : Fit v) (n m : ℕ) (good : rightLengths n m ≡ true) (s : State) (t : inTurn v n m (s .actions) ≡ true) where
+module _ {known : Known} (v : Verdict) (fit : Fit known v) (n m : ℕ) (good : rightLengths n m ≡ true) (s : State) (t : inTurn v n m (s .actions) ≡ true) where
   pub made-stands : Stands v (made n m s) s
   made-stands =
       let f = turns-fit v fit n m (s .actions) t in
@@ -162,7 +163,7 @@ module _ (v : Verdict) (b : Batch) (s : State) (st : Stands v b s) where
   accepted-leaves call z = rw (answered-by-rules call, eq-eqb (rules v n m s call .code) 0 z, stands-exactly v b s .1 st)
 
   -- with the lengths of its buffers, and the next state standing
-  pub accepted-stands : Fit v → (call : Call) → rules v n m s call .code ≡ 0 → Stands v (after v b call) (next s call)
+  pub accepted-stands : {known : Known} → Fit known v → (call : Call) → rules v n m s call .code ≡ 0 → Stands v (after v b call) (next s call)
   accepted-stands fit call z =
       subst (λ (x : Batch). Stands v x (next s call)) (sym (accepted-leaves call z))
       (made-stands v fit n m (st .lengths) (next s call) (turns-next v n m s call (st .turns) z))

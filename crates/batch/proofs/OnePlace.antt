@@ -9,6 +9,7 @@ use borrow.Author.Tests.{eqb-true}
 use lib.Dec.{eqb}
 use lib.ListN.{length, getD, take, drop, set, length-append, length-set}
 use lib.Seq.{take-at, drop-at, take-append-seam, length-take-le}
+use Rattle.psc.specs.Table.{Known}
 use Rattle.text.specs.declared.Answer.{Answer}
 use Rattle.text.specs.Lists.{overlay}
 use Rattle.text.proofs.Booleans.{clash}
@@ -69,10 +70,10 @@ record Writes (n : ℕ) (recs others : List (List ℕ)) : Type 0 where
   fits : place * 401 + 401 ≤ n
   is : zeroFilled n (linesOf others) ≡ overlay (zeroFilled n (linesOf recs)) (place * 401) (lineOf line)
 
-sheet-long : (recs : List (List ℕ)) → Sheet recs → length (linesOf recs) ≡ length recs * 401
+sheet-long : {known : Known} (recs : List (List ℕ)) → Sheet known recs → length (linesOf recs) ≡ length recs * 401
 sheet-long recs s = all-lines-long recs (λ i h. s .each i h .long)
 
-module _ (n : ℕ) (recs : List (List ℕ)) (s : Sheet recs) (fits : length recs * 401 ≤ n) where
+module _ {known : Known} (n : ℕ) (recs : List (List ℕ)) (s : Sheet known recs) (fits : length recs * 401 ≤ n) where
   abbrev behind : List ℕ
   behind = zeros (n - length (linesOf recs))
 
@@ -95,7 +96,7 @@ module _ (n : ℕ) (recs : List (List ℕ)) (s : Sheet recs) (fits : length recs
         map-one (hasId id) new recs (f .place) [] (f .within) (f .its)
         (λ i l q. s .apart i (f .place) l (f .within) (same-exactly _ _ .0 q ∙ sym (same-exactly _ _ .0 (f .its))))
 
-    replaced : (rec : List ℕ) (others : List (List ℕ)) → length rec ≡ 399 → Sheet others → others ≡ set recs (f .place) rec → Writes n recs others
+    replaced : (rec : List ℕ) (others : List (List ℕ)) → length rec ≡ 399 → Sheet known others → others ≡ set recs (f .place) rec → Writes n recs others
     replaced rec others long o e =
         let many : length others ≡ length recs = ap length e ∙ length-set recs (f .place) rec in
         let z : n - length (linesOf recs) ≡ n - length (linesOf others) = omega (arith, sheet-long recs s, sheet-long others o) in
@@ -110,14 +111,14 @@ module _ (n : ℕ) (recs : List (List ℕ)) (s : Sheet recs) (fits : length recs
         }
 
 -- ---- an action that is acceptable behind others
-module _ (v : Verdict) (fit : Fit v) (n m : ℕ) (xs : List Action) (t : inTurn v n m xs ≡ true) where
+module _ {known : Known} (v : Verdict) (fit : Fit known v) (n m : ℕ) (xs : List Action) (t : inTurn v n m xs ≡ true) where
   abbrev recs : List (List ℕ)
   recs = recordsOf xs
 
-  abbrev held-fits : Fits n m xs
+  abbrev held-fits : Fits known n m xs
   held-fits = turns-fit v fit n m xs t
 
-  action-writes : (a : Action) → actionRule v recs (n / 401) a .code ≡ 0 → Sheet (recordsAfter recs a) → length (recordsAfter recs a) * 401 ≤ n → Writes n recs (recordsAfter recs a)
+  action-writes : (a : Action) → actionRule v recs (n / 401) a .code ≡ 0 → Sheet known (recordsAfter recs a) → length (recordsAfter recs a) * 401 ≤ n → Writes n recs (recordsAfter recs a)
   action-writes (Addition rec) z o more = added n recs (held-fits .sheet) (held-fits .places) rec (fit .long rec (adds v recs (n / 401) rec z .passes)) more
   action-writes (Amendment rec) z o more =
       let p = amends v recs (n / 401) rec z in
@@ -132,17 +133,17 @@ module _ (v : Verdict) (fit : Fit v) (n m : ℕ) (xs : List Action) (t : inTurn 
       (changed-there n recs (held-fits .sheet) (held-fits .places) id f cancelledRec)
 
   module _ (a : Action) (z : ruleBehind v n m xs a .code ≡ 0) where
-    abbrev next-fits : Fits n m (xs ++ a ∷ [])
+    abbrev next-fits : Fits known n m (xs ++ a ∷ [])
     next-fits = fits-last v fit n m xs a held-fits z
 
     writes : Writes n recs (recordsOf (xs ++ a ∷ []))
     writes =
         let e = records-last [] xs a in
         subst (Writes n recs) (sym e)
-        (action-writes a (accepted-if v recs (n / 401) (m - length (entriesOf xs)) a z .rule) (subst Sheet e (next-fits .sheet)) (subst (λ (l : List (List ℕ)). length l * 401 ≤ n) e (next-fits .places)))
+        (action-writes a (accepted-if v recs (n / 401) (m - length (entriesOf xs)) a z .rule) (subst (Sheet known) e (next-fits .sheet)) (subst (λ (l : List (List ℕ)). length l * 401 ≤ n) e (next-fits .places)))
 
 -- ---- the file before and the file after
-module _ (n m : ℕ) (xs : List Action) (f : Fits n m xs) (others : List (List ℕ)) (g : length (zeroFilled n (linesOf others)) ≡ n) (w : Writes n (recordsOf xs) others) where
+module _ {known : Known} (n m : ℕ) (xs : List Action) (f : Fits known n m xs) (others : List (List ℕ)) (g : length (zeroFilled n (linesOf others)) ≡ n) (w : Writes n (recordsOf xs) others) where
   abbrev file : List ℕ
   file = zeroFilled n (linesOf (recordsOf xs))
 
@@ -178,16 +179,16 @@ module _ (n m : ℕ) (xs : List Action) (f : Fits n m xs) (others : List (List �
     behind = rest-same;
   }
 
-one-more : (v : Verdict) → Fit v → (n m : ℕ) (xs : List Action) → inTurn v n m xs ≡ true → (a : Action) → ruleBehind v n m xs a .code ≡ 0 → WritesOnePlace (made n m (state xs)) (made n m (state (xs ++ a ∷ [])) .file)
+one-more : {known : Known} (v : Verdict) → Fit known v → (n m : ℕ) (xs : List Action) → inTurn v n m xs ≡ true → (a : Action) → ruleBehind v n m xs a .code ≡ 0 → WritesOnePlace (made n m (state xs)) (made n m (state (xs ++ a ∷ [])) .file)
 unfolding made
 one-more v fit n m xs t a z =
     forth n m xs (turns-fit v fit n m xs t) (recordsOf (xs ++ a ∷ [])) (file-long n m (xs ++ a ∷ []) (next-fits v fit n m xs t a z)) (writes v fit n m xs t a z)
 
 -- an amendment, whose place it is and what it writes there
-one-amended : (v : Verdict) → Fit v → (n m : ℕ) (xs : List Action) → inTurn v n m xs ≡ true → (rec : List ℕ) → ruleBehind v n m xs (Amendment rec) .code ≡ 0
+one-amended : {known : Known} (v : Verdict) → Fit known v → (n m : ℕ) (xs : List Action) → inTurn v n m xs ≡ true → (rec : List ℕ) → ruleBehind v n m xs (Amendment rec) .code ≡ 0
     → AmendsOnePlace (made n m (state xs)) rec (made n m (state (xs ++ Amendment rec ∷ [])) .file)
 unfolding made forth replaced
-one-amended v fit n m xs t rec z =
+one-amended {known} v fit n m xs t rec z =
     let recs = recordsOf xs in
     let fits = turns-fit v fit n m xs t in
     let p = amends v recs (n / 401) rec (accepted-if v recs (n / 401) (m - length (entriesOf xs)) (Amendment rec) z .rule) in
@@ -196,7 +197,7 @@ one-amended v fit n m xs t rec z =
     let g = fits-last v fit n m xs (Amendment rec) fits z in
     let others = map (replacedBy rec) recs in
     let long : length (zeroFilled n (linesOf others)) ≡ n = ap (λ (l : List (List ℕ)). length (zeroFilled n (linesOf l))) (sym e) ∙ file-long n m (xs ++ Amendment rec ∷ []) g in
-    let w = replaced n recs (fits .sheet) (fits .places) (idOf rec) f rec others (fit .long rec (p .0)) (subst Sheet e (g .sheet)) (changed-there n recs (fits .sheet) (fits .places) (idOf rec) f (λ r. rec)) in
+    let w = replaced n recs (fits .sheet) (fits .places) (idOf rec) f rec others (fit .long rec (p .0)) (subst (Sheet known) e (g .sheet)) (changed-there n recs (fits .sheet) (fits .places) (idOf rec) f (λ r. rec)) in
     subst (λ (l : List (List ℕ)). AmendsOnePlace (made n m (state xs)) rec (zeroFilled n (linesOf l))) (sym e)
     record {
       writes = forth n m xs fits others long w;
@@ -242,7 +243,7 @@ latest-of v n m [] t z = absurd (omega (arith, z))
 latest-of v n m (x ∷ xs) t z = let l = latest-behind v n m [] x xs t in record { action = l .action; is = l .is; turns = l .turns; rule = l .rule }
 
 -- ---- any call but opening
-module _ (v : Verdict) (fit : Fit v) (b : Batch) where
+module _ {known : Known} (v : Verdict) (fit : Fit known v) (b : Batch) where
   abbrev n : ℕ
   n = fileLength b
 

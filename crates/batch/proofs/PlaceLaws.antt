@@ -9,6 +9,7 @@ use borrow.Author.Tests.{eqb-true, eqb-false, ne-eqb, le-leb, lt-leb, ltb-true, 
 use lib.Dec.{eqb, ltb, leb}
 use lib.ListN.{length, getD, drop, set}
 use lib.Seq.{getD-take, getD-drop}
+use Rattle.psc.specs.Table.{Known}
 use Rattle.text.specs.Lists.{sameBytes, overlay}
 use Rattle.text.proofs.Booleans.{clash}
 use Rattle.text.proofs.Lists.{same-exactly}
@@ -26,10 +27,10 @@ use Rattle.batch.proofs.ZeroFilled.{filled-long, filled-more}
 use Rattle.batch.proofs.Sheets.{Sheet, status-is, amends, cancels, kept-posting, sheet-step}
 use Rattle.batch.proofs.Verdicts.{posted-fit}
 
-pub long-of : (recs : List (List ℕ)) → Sheet recs → Long recs
+pub long-of : {known : Known} (recs : List (List ℕ)) → Sheet known recs → Long recs
 long-of recs s = λ i h. s .each i h .long
 
-pub lines-long : (recs : List (List ℕ)) → Sheet recs → length (linesOf recs) ≡ length recs * 401
+pub lines-long : {known : Known} (recs : List (List ℕ)) → Sheet known recs → length (linesOf recs) ≡ length recs * 401
 lines-long recs s = all-lines-long recs (long-of recs s)
 
 -- ---- the identifier that is sought among the first n
@@ -55,7 +56,7 @@ sought file id (suc n) = go (sameBytes (idAt file n) id) refl (sought file id n)
     go false e (there k z h t) = there k (rw e z) (omega arith) t
 
 -- ---- the one record with an identifier
-module _ (recs : List (List ℕ)) (s : Sheet recs) (id : List ℕ) where
+module _ {known : Known} (recs : List (List ℕ)) (s : Sheet known recs) (id : List ℕ) where
   pub only : (i j : ℕ) → i < length recs → j < length recs → hasId id (getD recs i []) ≡ true → hasId id (getD recs j []) ≡ true → i ≡ j
   only i j h g e f = s .apart i j h g (same-exactly (idOf (getD recs i [])) id .0 e ∙ sym (same-exactly (idOf (getD recs j [])) id .0 f))
 
@@ -78,7 +79,7 @@ module _ (recs : List (List ℕ)) (s : Sheet recs) (id : List ℕ) where
     changed-there new = map-one (hasId id) new recs k [] h e (λ i l q. only i k l h q e)
 
 -- ---- what stands in the file, with anything behind it
-module _ (recs : List (List ℕ)) (s : Sheet recs) (t : List ℕ) where
+module _ {known : Known} (recs : List (List ℕ)) (s : Sheet known recs) (t : List ℕ) where
   pub record-view : (i : ℕ) → i < length recs → recordAt (linesOf recs ++ t) i ≡ getD recs i []
   record-view i h = record-there recs t i (long-of recs s) h
 
@@ -141,7 +142,7 @@ module _ (recs : List (List ℕ)) (s : Sheet recs) (t : List ℕ) where
           rw (z, ne-eqb (suc k) 0 (λ q. omega arith), place, cancelled-view k h, is-present recs s id k h e, cancelled-there recs s id k h e)
 
 -- ---- an action, in a buffer of n bytes
-module _ (n : ℕ) (recs : List (List ℕ)) (s : Sheet recs) (fits : length recs * 401 ≤ n) where
+module _ {known : Known} (n : ℕ) (recs : List (List ℕ)) (s : Sheet known recs) (fits : length recs * 401 ≤ n) where
   abbrev behind : List ℕ
   behind = zeros (n - length (linesOf recs))
 
@@ -155,14 +156,14 @@ module _ (n : ℕ) (recs : List (List ℕ)) (s : Sheet recs) (fits : length recs
       go true e = rw long (le-leb (length recs * 401 + 401) n (omega (arith, ltb-true (length recs) (n / 401) e)))
       go false e = rw long (lt-leb (length recs * 401 + 401) n (omega (arith, ltb-false (length recs) (n / 401) e)))
 
-  pub answer-view : (a : Action) → actionAnswer (zeroFilled n (linesOf recs)) (length recs) (numberOf a) (bodyOf a) ≡ actionRule posted recs (n / 401) a
+  pub answer-view : (a : Action) → actionAnswer known (zeroFilled n (linesOf recs)) (length recs) (numberOf a) (bodyOf a) ≡ actionRule (posted known) recs (n / 401) a
   unfolding actionAnswer addAnswer amendAnswer cancelAnswer actionRule
   answer-view (Addition rec) = rw (present-view recs s behind (idOf rec), room-view)
   answer-view (Amendment rec) = rw (live-view recs s behind (idOf rec))
   answer-view (Cancellation id) = rw (live-view recs s behind id)
 
   -- as many records, changed, with the same zeros behind them
-  same-rest : (others : List (List ℕ)) → Sheet others → length others ≡ length recs → linesOf others ++ behind ≡ zeroFilled n (linesOf others)
+  same-rest : (others : List (List ℕ)) → Sheet known others → length others ≡ length recs → linesOf others ++ behind ≡ zeroFilled n (linesOf others)
   same-rest others o e =
       let z : n - length (linesOf recs) ≡ n - length (linesOf others) = omega (arith, lines-long recs s, lines-long others o) in
       ap (λ (k : ℕ). linesOf others ++ zeros k) z
@@ -188,14 +189,14 @@ module _ (n : ℕ) (recs : List (List ℕ)) (s : Sheet recs) (fits : length recs
       ∙ bytes-changed recs behind (m .place) (long-of recs s) (m .within) 340 48 341 32 (omega arith) (omega arith)
       ∙ ap (λ (others : List (List ℕ)). linesOf others ++ behind) (sym (changed-there recs s id (m .place) (m .within) (m .its) cancelledRec))
 
-  pub file-view : (a : Action) → actionRule posted recs (n / 401) a .code ≡ 0
+  pub file-view : (a : Action) → actionRule (posted known) recs (n / 401) a .code ≡ 0
       → actionFile (zeroFilled n (linesOf recs)) (length recs) (numberOf a) (bodyOf a) ≡ zeroFilled n (linesOf (recordsAfter recs a))
   unfolding actionFile
   file-view (Addition rec) z = added rec
   file-view (Amendment rec) z =
-      let p = amends posted recs (n / 401) rec z in
-      amended rec (kept-posting posted posted-fit rec (p .0) .long) (p .1)
-      ∙ same-rest (recordsAfter recs (Amendment rec)) (sheet-step posted posted-fit recs (n / 401) (Amendment rec) s z) (length-map (replacedBy rec) recs)
+      let p = amends (posted known) recs (n / 401) rec z in
+      amended rec (kept-posting (posted known) (posted-fit known) rec (p .0) .long) (p .1)
+      ∙ same-rest (recordsAfter recs (Amendment rec)) (sheet-step (posted known) (posted-fit known) recs (n / 401) (Amendment rec) s z) (length-map (replacedBy rec) recs)
   file-view (Cancellation id) z =
-      cancelled-line id (cancels posted recs (n / 401) id z .0)
-      ∙ same-rest (recordsAfter recs (Cancellation id)) (sheet-step posted posted-fit recs (n / 401) (Cancellation id) s z) (length-map (cancelledFor id) recs)
+      cancelled-line id (cancels (posted known) recs (n / 401) id z .0)
+      ∙ same-rest (recordsAfter recs (Cancellation id)) (sheet-step (posted known) (posted-fit known) recs (n / 401) (Cancellation id) s z) (length-map (cancelledFor id) recs)

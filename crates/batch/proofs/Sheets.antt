@@ -8,12 +8,13 @@ use native.Mathlib.Omega.{arith}
 use borrow.Author.Tests.{ltb-true}
 use lib.Dec.{ltb}
 use lib.ListN.{length, getD, take, drop}
+use Rattle.psc.specs.Table.{Known}
 use Rattle.text.specs.Answers.{answer, accepted}
 use Rattle.text.specs.Lists.{sameBytes}
 use Rattle.text.proofs.Lists.{same-exactly}
 use Rattle.ident.specs.Identifier.{rightId}
 use Rattle.layout.specs.Layout.{fieldOf}
-use Rattle.record.specs.Rules.{recordAnswer}
+use Rattle.record.specs.Rules.{inFile, recordAnswer}
 use Rattle.record.proofs.Status.{cancelled-rec-long, cancelled-rec-others, cancelled-rec-status, cancelled-rec-passes}
 use Rattle.record.specs.Readings.{cancelledRec}
 use Rattle.batch.specs.Actions.{Action, Addition, Amendment, Cancellation}
@@ -24,17 +25,17 @@ use Rattle.batch.proofs.Rows.{length-last, PlaceIn, earlier, last, plac
 
 -- ---- sheets
 -- a record as it may stand in a batch: 399 bytes that keep the table, status blank or "0 "
-pub record Kept (rec : List ℕ) : Type 0 where
+pub record Kept (known : Known) (rec : List ℕ) : Type 0 where
   pub long : length rec ≡ 399
   pub status : fieldOf rec 19 ≡ cond (isCancelledRec rec) (48 ∷ 32 ∷ []) (32 ∷ 32 ∷ [])
-  pub passes : recordAnswer false rec .code ≡ 0
+  pub passes : recordAnswer (inFile known) rec .code ≡ 0
 
 -- such records, no two with one identifier
-pub record Sheet (recs : List (List ℕ)) : Type 0 where
-  pub each : (i : ℕ) → i < length recs → Kept (getD recs i [])
+pub record Sheet (known : Known) (recs : List (List ℕ)) : Type 0 where
+  pub each : (i : ℕ) → i < length recs → Kept known (getD recs i [])
   pub apart : (i j : ℕ) → i < length recs → j < length recs → idOf (getD recs i []) ≡ idOf (getD recs j []) → i ≡ j
 
-pub sheet-none : Sheet []
+pub sheet-none : {known : Known} → Sheet known []
 sheet-none = record { each = λ i h. absurd (omega arith); apart = λ i j h g e. absurd (omega arith) }
 
 -- ---- the status of a record of 399 bytes
@@ -88,24 +89,24 @@ cancels v recs places id z = live-accepts recs id (go (rightId id) z)
     go false h = absurd (omega (arith, h))
 
 -- ---- what it leaves
-pub kept-posting : (v : Verdict) → Fit v → (rec : List ℕ) → v rec .code ≡ 0 → Kept rec
+pub kept-posting : {known : Known} (v : Verdict) → Fit known v → (rec : List ℕ) → v rec .code ≡ 0 → Kept known rec
 unfolding sameBytes
 kept-posting v fit rec z = record { long = fit .long rec z; status = fit .blank rec z ∙ rw (fit .blank rec z); passes = fit .passes rec z }
 
-kept-cancelled : (rec : List ℕ) → Kept rec → Kept (cancelledRec rec)
+kept-cancelled : {known : Known} (rec : List ℕ) → Kept known rec → Kept known (cancelledRec rec)
 unfolding sameBytes
 kept-cancelled rec k =
     let e = cancelled-rec-status rec (k .long) in
-    record { long = cancelled-rec-long rec ∙ k .long; status = e ∙ rw e; passes = cancelled-rec-passes rec (k .long) (k .passes) }
+    record { long = cancelled-rec-long rec ∙ k .long; status = e ∙ rw e; passes = cancelled-rec-passes _ rec (k .long) (k .passes) }
 
 -- one record more, with a new identifier
-sheet-last : (recs : List (List ℕ)) (rec : List ℕ) → Sheet recs → Kept rec → isPresent recs (idOf rec) ≡ false → Sheet (recs ++ rec ∷ [])
-sheet-last recs rec s k new = record { each = λ i h. kept (place-in recs rec [] i h); apart = λ i j h g e. same (place-in recs rec [] i h) (place-in recs rec [] j g) e }
+sheet-last : {known : Known} (recs : List (List ℕ)) (rec : List ℕ) → Sheet known recs → Kept known rec → isPresent recs (idOf rec) ≡ false → Sheet known (recs ++ rec ∷ [])
+sheet-last {known} recs rec s k new = record { each = λ i h. kept (place-in recs rec [] i h); apart = λ i j h g e. same (place-in recs rec [] i h) (place-in recs rec [] j g) e }
   where
     fresh : (i : ℕ) → i < length recs → idOf (getD recs i []) ≡ idOf rec → ⊥
     fresh i h e = none-at (hasId (idOf rec)) recs i new h (same-exactly (idOf (getD recs i [])) (idOf rec) .1 e)
 
-    kept : {i : ℕ} → PlaceIn recs rec [] i → Kept (getD (recs ++ rec ∷ []) i [])
+    kept : {i : ℕ} → PlaceIn recs rec [] i → Kept known (getD (recs ++ rec ∷ []) i [])
     kept {i} (earlier h e) = rw e (s .each i h)
     kept {i} (last h e) = rw e k
 
@@ -116,7 +117,7 @@ sheet-last recs rec s k new = record { each = λ i h. kept (place-in recs rec []
     same {i} {j} (last h e) (last g f) q = h ∙ sym g
 
 -- each changed to a record that may stand there, with the same identifier
-sheet-map : (recs : List (List ℕ)) (f : List ℕ → List ℕ) → Sheet recs → ((rec : List ℕ) → Kept rec → Kept (f rec)) → ((rec : List ℕ) → Kept rec → idOf (f rec) ≡ idOf rec) → Sheet (map f recs)
+sheet-map : {known : Known} (recs : List (List ℕ)) (f : List ℕ → List ℕ) → Sheet known recs → ((rec : List ℕ) → Kept known rec → Kept known (f rec)) → ((rec : List ℕ) → Kept known rec → idOf (f rec) ≡ idOf rec) → Sheet known (map f recs)
 sheet-map recs f s keeps same-id = record {
   each = λ i h. rw (map-nth f recs i [] [] (within i h)) (keeps (getD recs i []) (s .each i (within i h)));
   apart = λ i j h g e. s .apart i j (within i h) (within j g) (sym (id-at i (within i h)) ∙ e ∙ id-at j (within j g));
@@ -128,38 +129,38 @@ sheet-map recs f s keeps same-id = record {
     id-at : (i : ℕ) → i < length recs → idOf (getD (map f recs) i []) ≡ idOf (getD recs i [])
     id-at i h = rw (map-nth f recs i [] [] h) (same-id (getD recs i []) (s .each i h))
 
-module _ (new : List ℕ) (k : Kept new) where
-  replaced-kept : (rec : List ℕ) → Kept rec → Kept (replacedBy new rec)
+module _ {known : Known} (new : List ℕ) (k : Kept known new) where
+  replaced-kept : (rec : List ℕ) → Kept known rec → Kept known (replacedBy new rec)
   replaced-kept rec l = go (hasId (idOf new) rec)
     where
-      go : (t : Bool) → Kept (cond t new rec)
+      go : (t : Bool) → Kept known (cond t new rec)
       go true = k
       go false = l
 
-  replaced-id : (rec : List ℕ) → Kept rec → idOf (replacedBy new rec) ≡ idOf rec
+  replaced-id : (rec : List ℕ) → Kept known rec → idOf (replacedBy new rec) ≡ idOf rec
   replaced-id rec l = go (hasId (idOf new) rec) refl
     where
       go : (t : Bool) → hasId (idOf new) rec ≡ t → idOf (cond t new rec) ≡ idOf rec
       go true e = sym (same-exactly (idOf rec) (idOf new) .0 e)
       go false e = refl
 
-module _ (id : List ℕ) where
-  cancelled-kept : (rec : List ℕ) → Kept rec → Kept (cancelledFor id rec)
+module _ {known : Known} (id : List ℕ) where
+  cancelled-kept : (rec : List ℕ) → Kept known rec → Kept known (cancelledFor id rec)
   cancelled-kept rec l = go (hasId id rec)
     where
-      go : (t : Bool) → Kept (cond t (cancelledRec rec) rec)
+      go : (t : Bool) → Kept known (cond t (cancelledRec rec) rec)
       go true = kept-cancelled rec l
       go false = l
 
-  cancelled-id : (rec : List ℕ) → Kept rec → idOf (cancelledFor id rec) ≡ idOf rec
+  cancelled-id : (rec : List ℕ) → Kept known rec → idOf (cancelledFor id rec) ≡ idOf rec
   cancelled-id rec l = go (hasId id rec)
     where
       go : (t : Bool) → idOf (cond t (cancelledRec rec) rec) ≡ idOf rec
       go true = cancelled-rec-others rec 1 (λ e. omega (arith, e))
       go false = refl
 
-module _ (v : Verdict) (fit : Fit v) where
-  pub sheet-step : (recs : List (List ℕ)) (places : ℕ) (a : Action) → Sheet recs → actionRule v recs places a .code ≡ 0 → Sheet (recordsAfter recs a)
+module _ {known : Known} (v : Verdict) (fit : Fit known v) where
+  pub sheet-step : (recs : List (List ℕ)) (places : ℕ) (a : Action) → Sheet known recs → actionRule v recs places a .code ≡ 0 → Sheet known (recordsAfter recs a)
   sheet-step recs places (Addition rec) s z = let p = adds v recs places rec z in sheet-last recs rec s (kept-posting v fit rec (p .passes)) (p .new)
   sheet-step recs places (Amendment rec) s z =
       let k = kept-posting v fit rec (amends v recs places rec z .0) in

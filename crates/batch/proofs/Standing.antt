@@ -83,12 +83,17 @@ module _ (v : Verdict) (b : Batch) (s : State) where
           let q = and-eq-true-iff (rightLengths n m) (inTurn v n m xs) .0 (p .0) in
           record { lengths = q .0; turns = q .1; is = batch-same _ _ (p .1) }
 
-  so-stands : Stands v b s → standsIn v b ≡ some s
-  unfolding standing made
-  so-stands st =
+  -- the used bytes of the journal print it
+  used-read : Stands v b s → actionsIn (take (b .counts .used) (b .journal)) ≡ some (s .actions)
+  unfolding made
+  used-read st =
       let front : take (b .counts .used) (b .journal) ≡ entriesOf (s .actions) = ap (λ (x : Batch). take (x .counts .used) (x .journal)) (st .is) ∙ take-append-seam (entriesOf (s .actions)) _ in
-      let read : actionsIn (take (b .counts .used) (b .journal)) ≡ some (s .actions) =
-      ap actionsIn front ∙ read-exactly (entriesOf (s .actions)) (s .actions) .1 (turns-sized v _ _ [] (s .actions) (st .turns), refl) in
+      ap actionsIn front ∙ read-exactly (entriesOf (s .actions)) (s .actions) .1 (turns-sized v _ _ [] (s .actions) (st .turns), refl)
+
+  so-stands : Stands v b s → standsIn v b ≡ some s
+  unfolding standing
+  so-stands st =
+      let read = used-read st in
       let same : sameBatch b (made (fileLength b) (journalLength b) s) ≡ true = ap (sameBatch b) (sym (st .is)) ∙ same-itself b in
       rw (read, st .lengths, st .turns, same)
 
@@ -96,8 +101,9 @@ module _ (v : Verdict) (b : Batch) (s : State) where
   stands-exactly = (stands-so (actionsIn (take (b .counts .used) (b .journal))), so-stands)
 
 -- ---- once: at most one state stands in a batch, and lists acceptable in their turn that make the same batch are the same
-pub stands-once : (v : Verdict) (b : Batch) (s t : State) → Stands v b s → Stands v b t → s ≡ t
-stands-once v b s t p q = Option·some-injective _ _ (sym (stands-exactly v b s .1 p) ∙ stands-exactly v b t .1 q)
+-- and by whatever verdicts they stand there
+pub stands-once : (v w : Verdict) (b : Batch) (s t : State) → Stands v b s → Stands w b t → s ≡ t
+stands-once v w b s t p q = ap state (Option·some-injective _ _ (sym (used-read v b s p) ∙ used-read w b t q))
 
 pub made-once : (v : Verdict) (n m : ℕ) (xs ys : List Action) → inTurn v n m xs ≡ true → inTurn v n m ys ≡ true → made n m (state xs) ≡ made n m (state ys) → xs ≡ ys
 unfolding made

@@ -9,6 +9,7 @@ use borrow.Author.Tests.{eq-eqb, eqb-true}
 use lib.Dec.{eqb}
 use lib.ListN.{length, getD, set, take, drop, length-append}
 use lib.Seq.{getD-take, getD-drop, getD-set-same, set-set, set-comm, set-getD}
+use Rattle.psc.specs.Table.{Known}
 use Rattle.text.specs.Answers.{orElse}
 use Rattle.text.specs.Lists.{sameBytes, overlay}
 use Rattle.text.proofs.Booleans.{clash}
@@ -42,14 +43,14 @@ use Rattle.batch.proofs.Walks.{is-struck, not-struck}
 less-more : (t : Totals) (d p : ℕ) → oneLiveLess (oneLiveMore t d p) d p ≡ totals (t .live) (t .cancelled) (t .cash .0) (t .price .0)
 less-more t d p = rw (off (t .live) 1, off (t .cash .0) d, off (t .price .0) p)
 
-module _ (n : ℕ) (recs : List (List ℕ)) (s : Sheet recs) (rec : List ℕ) (z : actionRule posted recs (n / 401) (Addition rec) .code ≡ 0) where
-  good : Adds posted recs (n / 401) rec
-  good = adds posted recs (n / 401) rec z
+module _ {known : Known} (n : ℕ) (recs : List (List ℕ)) (s : Sheet known recs) (rec : List ℕ) (z : actionRule (posted known) recs (n / 401) (Addition rec) .code ≡ 0) where
+  good : Adds (posted known) recs (n / 401) rec
+  good = adds (posted known) recs (n / 401) rec z
 
   pub line-off : withoutLine (zeroFilled n (linesOf (recs ++ rec ∷ []))) (length (recs ++ rec ∷ []) - 1) ≡ zeroFilled n (linesOf recs)
   line-off =
       let at : (length (recs ++ rec ∷ []) - 1) * 401 ≡ length (linesOf recs) = omega (arith, length-last recs rec, lines-long recs s) in
-      let wide : 401 ≡ length (lineOf rec) = omega (arith, length-append rec (13 ∷ 10 ∷ []), posted-fit .long rec (good .passes)) in
+      let wide : 401 ≡ length (lineOf rec) = omega (arith, length-append rec (13 ∷ 10 ∷ []), (posted-fit known) .long rec (good .passes)) in
       (λ i. overlay (zeroFilled n (lines-last recs rec i)) (at i) (zeros (wide i)))
       ∙ filled-less n (linesOf recs) (lineOf rec) (omega (arith, length-append (linesOf recs) (lineOf rec), wide, lines-long recs s, good .room))
 
@@ -57,16 +58,16 @@ module _ (n : ℕ) (recs : List (List ℕ)) (s : Sheet recs) (rec : List ℕ) (z
   live-off =
       let all : recs ++ [] ≡ recs = append-nil recs in
       let more : totalsOf (recs ++ rec ∷ []) ≡ oneLiveMore (totalsOf recs) (cashIn rec) (priceIn rec) =
-      totals-more recs rec [] ∙ ap (λ (l : List (List ℕ)). withRecord (totalsOf l) rec) all ∙ live-more (totalsOf recs) rec (posted-fit .blank rec (good .passes)) in
+      totals-more recs rec [] ∙ ap (λ (l : List (List ℕ)). withRecord (totalsOf l) rec) all ∙ live-more (totalsOf recs) rec ((posted-fit known) .blank rec (good .passes)) in
       ap (λ (t : Totals). oneLiveLess t (cashIn rec) (priceIn rec)) more ∙ less-more (totalsOf recs) (cashIn rec) (priceIn rec)
 
 -- ---- the place of an identifier
-place-is : (recs : List (List ℕ)) (s : Sheet recs) (t id : List ℕ) (k : ℕ) → k < length recs → hasId id (getD recs k []) ≡ true → placeOf (linesOf recs ++ t) id (length recs) ≡ k
+place-is : {known : Known} (recs : List (List ℕ)) (s : Sheet known recs) (t id : List ℕ) (k : ℕ) → k < length recs → hasId id (getD recs k []) ≡ true → placeOf (linesOf recs ++ t) id (length recs) ≡ k
 place-is recs s t id k h e =
     let m = touched recs s t id (is-present recs s id k h e) in
     m .found ∙ only recs s id (m .place) k (m .within) h (m .its) e
 
-same-zeros : (n : ℕ) (recs others : List (List ℕ)) → Sheet recs → Sheet others → length others ≡ length recs → linesOf recs ++ zeros (n - length (linesOf others)) ≡ zeroFilled n (linesOf recs)
+same-zeros : {known : Known} (n : ℕ) (recs others : List (List ℕ)) → Sheet known recs → Sheet known others → length others ≡ length recs → linesOf recs ++ zeros (n - length (linesOf others)) ≡ zeroFilled n (linesOf recs)
 same-zeros n recs others s o e =
     let long : length (linesOf others) ≡ length (linesOf recs) = omega (arith, lines-long recs s, lines-long others o, e) in
     ap (λ (k : ℕ). linesOf recs ++ zeros (n - k)) long
@@ -87,18 +88,18 @@ blank-again old long clear =
 live-again : (t : Totals) (d p : ℕ) → oneRevived (totals (t .live) (t .cancelled + 1) (t .cash .0) (t .price .0)) d p ≡ oneLiveMore t d p
 live-again t d p = rw (off (t .cancelled) 1)
 
-module _ (n : ℕ) (recs : List (List ℕ)) (s : Sheet recs) (id : List ℕ) (z : actionRule posted recs (n / 401) (Cancellation id) .code ≡ 0) where
+module _ {known : Known} (n : ℕ) (recs : List (List ℕ)) (s : Sheet known recs) (id : List ℕ) (z : actionRule (posted known) recs (n / 401) (Cancellation id) .code ≡ 0) where
   abbrev struck : List (List ℕ)
   struck = map (cancelledFor id) recs
 
   abbrev behind : List ℕ
   behind = zeros (n - length (linesOf struck))
 
-  struck-sheet : Sheet struck
-  struck-sheet = sheet-step posted posted-fit recs (n / 401) (Cancellation id) s z
+  struck-sheet : Sheet known struck
+  struck-sheet = sheet-step (posted known) (posted-fit known) recs (n / 401) (Cancellation id) s z
 
   live : (isPresent recs id ≡ true) × (isCancelledThere recs id ≡ false)
-  live = cancels posted recs (n / 401) id z
+  live = cancels (posted known) recs (n / 401) id z
 
   m : Touched recs s behind id
   m = touched recs s behind id (live .0)
@@ -162,24 +163,24 @@ module _ (n : ℕ) (recs : List (List ℕ)) (s : Sheet recs) (id : List ℕ) (z 
       ∙ sym (totals-before recs s behind id m (live .1))
 
 -- ---- an amendment: by the record before it, which was live
-abbrev pub Carried : List ℕ → List (List ℕ) → List ℕ → Type 0
-Carried id recs old = (i : ℕ) → i < length recs → hasId id (getD recs i []) ≡ true → isCancelledRec (getD recs i []) ≡ false → (getD recs i [] ≡ old) × (posted old .code ≡ 0)
+abbrev pub Carried : Known → List ℕ → List (List ℕ) → List ℕ → Type 0
+Carried known id recs old = (i : ℕ) → i < length recs → hasId id (getD recs i []) ≡ true → isCancelledRec (getD recs i []) ≡ false → (getD recs i [] ≡ old) × (posted known old .code ≡ 0)
 
-module _ (n : ℕ) (recs : List (List ℕ)) (s : Sheet recs) (fits : length recs * 401 ≤ n) (rec : List ℕ) (z : actionRule posted recs (n / 401) (Amendment rec) .code ≡ 0)
-    (before : List ℕ) (c : Carried (idOf rec) recs before) where
+module _ {known : Known} (n : ℕ) (recs : List (List ℕ)) (s : Sheet known recs) (fits : length recs * 401 ≤ n) (rec : List ℕ) (z : actionRule (posted known) recs (n / 401) (Amendment rec) .code ≡ 0)
+    (before : List ℕ) (c : Carried known (idOf rec) recs before) where
   abbrev amended : List (List ℕ)
   amended = map (replacedBy rec) recs
 
-  amended-sheet : Sheet amended
-  amended-sheet = sheet-step posted posted-fit recs (n / 401) (Amendment rec) s z
+  amended-sheet : Sheet known amended
+  amended-sheet = sheet-step (posted known) (posted-fit known) recs (n / 401) (Amendment rec) s z
 
-  met : (posted rec .code ≡ 0) × (isPresent recs (idOf rec) ≡ true) × (isCancelledThere recs (idOf rec) ≡ false)
-  met = amends posted recs (n / 401) rec z
+  met : (posted known rec .code ≡ 0) × (isPresent recs (idOf rec) ≡ true) × (isCancelledThere recs (idOf rec) ≡ false)
+  met = amends (posted known) recs (n / 401) rec z
 
   at : Touched recs s [] (idOf rec)
   at = touched recs s [] (idOf rec) (met .1)
 
-  carried : (getD recs (at .place) [] ≡ before) × (posted before .code ≡ 0)
+  carried : (getD recs (at .place) [] ≡ before) × (posted known before .code ≡ 0)
   carried = c (at .place) (at .within) (at .its) (sym (cancelled-there recs s (idOf rec) (at .place) (at .within) (at .its)) ∙ met .2)
 
   same-id : idOf before ≡ idOf rec
@@ -201,14 +202,14 @@ module _ (n : ℕ) (recs : List (List ℕ)) (s : Sheet recs) (fits : length recs
   before-there = is-present amended amended-sheet (idOf before) (at .place) within-still its-new
 
   pub before-long : length before ≡ 399
-  before-long = posted-fit .long before (carried .1)
+  before-long = (posted-fit known) .long before (carried .1)
 
-  accepts : actionRule posted amended (n / 401) (Amendment before) .code ≡ 0
+  accepts : actionRule (posted known) amended (n / 401) (Amendment before) .code ≡ 0
   unfolding actionRule orElse
   accepts =
       let live : isCancelledThere amended (idOf before) ≡ false =
-      cancelled-there amended amended-sheet (idOf before) (at .place) within-still its-new ∙ ap isCancelledRec new-there ∙ not-struck rec (met .0) in
-      rw (eq-eqb (posted before .code) 0 (carried .1), before-there, live)
+      cancelled-there amended amended-sheet (idOf before) (at .place) within-still its-new ∙ ap isCancelledRec new-there ∙ not-struck known rec (met .0) in
+      rw (eq-eqb (posted known before .code) 0 (carried .1), before-there, live)
 
   back : recordsAfter amended (Amendment before) ≡ recs
   back =
@@ -231,14 +232,14 @@ module _ (n : ℕ) (recs : List (List ℕ)) (s : Sheet recs) (fits : length recs
   amounts-back = totals-step n amended amended-sheet [] 0 (Amendment before) accepts ∙ ap totalsOf back
 
 -- ---- along a list that is acceptable in its turn, a live record is the latest one that was carried for its identifier
-module _ (id : List ℕ) where
-  carried-step : (recs : List (List ℕ)) (places : ℕ) (a : Action) (old : List ℕ) → Sheet recs → actionRule posted recs places a .code ≡ 0 → Carried id recs old → Carried id (recordsAfter recs a) (carriedBy id old a)
+module _ (known : Known) (id : List ℕ) where
+  carried-step : (recs : List (List ℕ)) (places : ℕ) (a : Action) (old : List ℕ) → Sheet known recs → actionRule (posted known) recs places a .code ≡ 0 → Carried known id recs old → Carried known id (recordsAfter recs a) (carriedBy id old a)
   carried-step recs places (Addition rec) old s z c i h its live = go (hasId id rec) refl (place-in recs rec [] i h)
     where
-      p : Adds posted recs places rec
-      p = adds posted recs places rec z
+      p : Adds (posted known) recs places rec
+      p = adds (posted known) recs places rec z
 
-      go : (b : Bool) → hasId id rec ≡ b → PlaceIn recs rec [] i → (getD (recs ++ rec ∷ []) i [] ≡ cond b rec old) × (posted (cond b rec old) .code ≡ 0)
+      go : (b : Bool) → hasId id rec ≡ b → PlaceIn recs rec [] i → (getD (recs ++ rec ∷ []) i [] ≡ cond b rec old) × (posted known (cond b rec old) .code ≡ 0)
       go true e (earlier g q) =
           let same : idOf (getD recs i []) ≡ id = ap idOf (sym q) ∙ same-exactly _ _ .0 its in
           absurd (none-at (hasId (idOf rec)) recs i (p .new) g (same-exactly _ _ .1 (same ∙ sym (same-exactly _ _ .0 e))))
@@ -254,8 +255,8 @@ module _ (id : List ℕ) where
       inside = omega (arith, h, length-map (replacedBy rec) recs)
 
       go : (b : Bool) → hasId id rec ≡ b → (d : Bool) → hasId (idOf rec) (getD recs i []) ≡ d → hasId id (cond d rec (getD recs i [])) ≡ true → isCancelledRec (cond d rec (getD recs i [])) ≡ false
-          → (cond d rec (getD recs i []) ≡ cond b rec old) × (posted (cond b rec old) .code ≡ 0)
-      go true e true f t l = (refl, amends posted recs places rec z .0)
+          → (cond d rec (getD recs i []) ≡ cond b rec old) × (posted known (cond b rec old) .code ≡ 0)
+      go true e true f t l = (refl, amends (posted known) recs places rec z .0)
       go true e false f t l = absurd (clash (same-exactly _ _ .1 (same-exactly _ _ .0 t ∙ sym (same-exactly _ _ .0 e))) f)
       go false e true f t l = absurd (clash t e)
       go false e false f t l = c i inside t l
@@ -268,23 +269,23 @@ module _ (id : List ℕ) where
       inside = omega (arith, h, length-map (cancelledFor other) recs)
 
       go : (d : Bool) → hasId id (cond d (cancelledRec (getD recs i [])) (getD recs i [])) ≡ true → isCancelledRec (cond d (cancelledRec (getD recs i [])) (getD recs i [])) ≡ false
-          → (cond d (cancelledRec (getD recs i [])) (getD recs i []) ≡ old) × (posted old .code ≡ 0)
+          → (cond d (cancelledRec (getD recs i [])) (getD recs i []) ≡ old) × (posted known old .code ≡ 0)
       go true t l = absurd (clash (is-struck (getD recs i []) (s .each i inside .long)) l)
       go false t l = c i inside t l
 
   module _ (n m : ℕ) where
-    carried-along : (before xs : List Action) (old : List ℕ) → Fits n m before → inTurnBehind posted n m before xs ≡ true → Carried id (recordsOf before) old
-        → Carried id (recordsFrom (recordsOf before) xs) (carriedFrom id old xs)
+    carried-along : (before xs : List Action) (old : List ℕ) → Fits known n m before → inTurnBehind (posted known) n m before xs ≡ true → Carried known id (recordsOf before) old
+        → Carried known id (recordsFrom (recordsOf before) xs) (carriedFrom id old xs)
     unfolding inTurnBehind
     carried-along before [] old f t c = c
     carried-along before (a ∷ xs) old f t c =
-        let p = and-eq-true-iff (eqb (ruleBehind posted n m before a .code) 0) (inTurnBehind posted n m (before ++ a ∷ []) xs) .0 t in
+        let p = and-eq-true-iff (eqb (ruleBehind (posted known) n m before a .code) 0) (inTurnBehind (posted known) n m (before ++ a ∷ []) xs) .0 t in
         let z = eqb-true _ 0 (p .0) in
         let after : recordsOf (before ++ a ∷ []) ≡ recordsAfter (recordsOf before) a = records-last [] before a in
-        let step = carried-step (recordsOf before) (n / 401) a old (f .sheet) (accepted-if posted _ _ _ a z .rule) c in
-        subst (λ (r : List (List ℕ)). Carried id (recordsFrom r xs) (carriedFrom id (carriedBy id old a) xs)) after
-        (carried-along (before ++ a ∷ []) xs (carriedBy id old a) (fits-last posted posted-fit n m before a f z) (p .1)
-        (subst (λ (r : List (List ℕ)). Carried id r (carriedBy id old a)) (sym after) step))
+        let step = carried-step (recordsOf before) (n / 401) a old (f .sheet) (accepted-if (posted known) _ _ _ a z .rule) c in
+        subst (λ (r : List (List ℕ)). Carried known id (recordsFrom r xs) (carriedFrom id (carriedBy id old a) xs)) after
+        (carried-along (before ++ a ∷ []) xs (carriedBy id old a) (fits-last (posted known) (posted-fit known) n m before a f z) (p .1)
+        (subst (λ (r : List (List ℕ)). Carried known id r (carriedBy id old a)) (sym after) step))
 
-    pub carried-all : (xs : List Action) (old : List ℕ) → inTurn posted n m xs ≡ true → Carried id (recordsOf xs) (carriedFrom id old xs)
+    pub carried-all : (xs : List Action) (old : List ℕ) → inTurn (posted known) n m xs ≡ true → Carried known id (recordsOf xs) (carriedFrom id old xs)
     carried-all xs old t = carried-along [] xs old (none-fits n m) t (λ i h. absurd (omega arith))

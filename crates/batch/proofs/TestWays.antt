@@ -12,6 +12,7 @@ use types.Run.{OneOf}
 use mir.Syntax.{w32, w64}
 use mir.Val.{Fits}
 use lib.ListN.{length, getD, set, take, drop}
+use Rattle.psc.specs.Table.{Known}
 use Rattle.text.specs.declared.Answer.{Answer}
 use Rattle.text.specs.Answers.{accepted}
 use Rattle.text.specs.Lists.{sameBytes}
@@ -84,58 +85,58 @@ module _ (file : List ℕ) (held : ℕ) (marks table id : List ℕ) (t : ℕ) (p
   live-there n o = sym (live-at (t - 1) (some-found n) ∙ rw (ne-eqb (getD marks (t - 1) 0 % 2) 1 o))
 
 -- ---- an addition
-module _ (file : List ℕ) (held used : ℕ) (rec marks table : List ℕ) where
-  not-added : (table′ : List ℕ) → length table′ ≡ length table → (Adds file held rec → ⊥) → Added file held used rec marks table false marks table′
+module _ (known : Known) (file : List ℕ) (held used : ℕ) (rec marks table : List ℕ) where
+  not-added : (table′ : List ℕ) → length table′ ≡ length table → (Adds known file held rec → ⊥) → Added known file held used rec marks table false marks table′
   not-added table′ long never = record { if-so = λ e. absurd (clash e refl); if-not = λ e. never; long = long }
 
-  pub added-short : length file - held * 401 < 401 → Added file held used rec marks table false marks table
+  pub added-short : length file - held * 401 < 401 → Added known file held used rec marks table false marks table
   added-short h = not-added table refl (λ p. omega (arith, h, p .room))
 
-  pub added-refused : (a : Answer) → a ≡ posted rec → (a .code ≡ 0 → ⊥) → Added file held used rec marks table false marks table
+  pub added-refused : (a : Answer) → a ≡ posted known rec → (a .code ≡ 0 → ⊥) → Added known file held used rec marks table false marks table
   added-refused a e z = not-added table refl (λ p. z (ap (λ (x : Answer). x .code) e ∙ p .good))
 
   module _ (id : List ℕ) (its : id ≡ fieldOf rec 1) (same : Bool) (es : same ≡ sameBytes (take (held * 401 + 13 - held * 401) (drop (held * 401) file)) id) where
     own-key : same ≡ sameBytes (keyAt file 0 held) (idOf rec)
     own-key = es ∙ rw (its, add-sub-cancel-left, add-zero (held * 401))
 
-    pub added-other : not same ≡ true → Added file held used rec marks table false marks table
+    pub added-other : not same ≡ true → Added known file held used rec marks table false marks table
     added-other n = not-added table refl (λ p. clash (own-key ∙ same-exactly _ _ .1 (p .own)) (not-true same n))
 
-    module _ (n : not same ≡ false) (known : Noted file held marks table) (t : ℕ) (table′ : List ℕ) (put : Put table file 0 held t table′) where
+    module _ (n : not same ≡ false) (marking : Noted file held marks table) (t : ℕ) (table′ : List ℕ) (put : Put table file 0 held t table′) where
       own-here : keyAt file 0 held ≡ idOf rec
       own-here = same-exactly _ _ .0 (sym own-key ∙ not-false same n)
 
       before-is : t ≡ seek file 0 (idOf rec) held
-      before-is = put .before ∙ known .noted .finds (keyAt file 0 held) ∙ ap (λ (k : List ℕ). seek file 0 k held) own-here
+      before-is = put .before ∙ marking .noted .finds (keyAt file 0 held) ∙ ap (λ (k : List ℕ). seek file 0 k held) own-here
 
       long-still : length table′ ≡ length table
       long-still = ap length (put .notes) ∙ length-noting table file 0 held
 
-      pub added-twice : (t ≡ 0 → ⊥) → Added file held used rec marks table false marks table′
+      pub added-twice : (t ≡ 0 → ⊥) → Added known file held used rec marks table false marks table′
       added-twice z = not-added table′ long-still (λ p. z (before-is ∙ p .new))
 
-      pub added-now : 401 ≤ length file - held * 401 → (a : Answer) → a ≡ posted rec → a .code ≡ 0 → t ≡ 0 → Added file held used rec marks table true (set marks held (used * 2)) table′
+      pub added-now : 401 ≤ length file - held * 401 → (a : Answer) → a ≡ posted known rec → a .code ≡ 0 → t ≡ 0 → Added known file held used rec marks table true (set marks held (used * 2)) table′
       added-now h a e z u =
           let room : held * 401 + 401 ≤ length file = omega (arith, h) in
           record {
             if-so = λ q. record {
               passes = record { room = room; good = ap (λ (x : Answer). x .code) (sym e) ∙ z; own = own-here; new = sym before-is ∙ u };
               nowMarks = refl;
-              noted = subst (Indexed file 0 (held + 1)) (sym (put .notes)) (indexed-more file 0 held table (known .noted) (omega (arith, room, known .room)) (omega (arith, known .few)) (key-of-record file 0 held (omega arith) room));
+              noted = subst (Indexed file 0 (held + 1)) (sym (put .notes)) (indexed-more file 0 held table (marking .noted) (omega (arith, room, marking .room)) (omega (arith, marking .few)) (key-of-record file 0 held (omega arith) room));
             };
             if-not = λ q. absurd (clash refl q);
             long = long-still;
           }
 
 -- ---- an amendment, and a cancellation
-module _ (file : List ℕ) (held used : ℕ) (rec marks : List ℕ) where
-  pub amended-refused : (a : Answer) → a ≡ posted rec → (a .code ≡ 0 → ⊥) → Amended file held used rec marks false marks
+module _ (known : Known) (file : List ℕ) (held used : ℕ) (rec marks : List ℕ) where
+  pub amended-refused : (a : Answer) → a ≡ posted known rec → (a .code ≡ 0 → ⊥) → Amended known file held used rec marks false marks
   amended-refused a e z = record { if-so = λ q. absurd (clash q refl); if-not = λ q k p. z (ap (λ (x : Answer). x .code) e ∙ p .good) }
 
-  pub amended-nowhere : (id : List ℕ) (w : Place) → id ≡ fieldOf rec 1 → w ≡ liveIn file held marks id → OneOf (1 ∷ []) (tagOf Places.the-type w) → Amended file held used rec marks false marks
+  pub amended-nowhere : (id : List ℕ) (w : Place) → id ≡ fieldOf rec 1 → w ≡ liveIn file held marks id → OneOf (1 ∷ []) (tagOf Places.the-type w) → Amended known file held used rec marks false marks
   amended-nowhere id w i e t = record { if-so = λ q. absurd (clash q refl); if-not = λ q k p. nowhere-at k (sym (is-nowhere w t) ∙ e ∙ ap (liveIn file held marks) i ∙ p .there) }
 
-  pub amended-now : (id : List ℕ) (w : Place) (a : Answer) (k : ℕ) → id ≡ fieldOf rec 1 → a ≡ posted rec → a .code ≡ 0 → w ≡ liveIn file held marks id → w ≡ At k → Amended file held used rec marks true (set marks k (used * 2))
+  pub amended-now : (id : List ℕ) (w : Place) (a : Answer) (k : ℕ) → id ≡ fieldOf rec 1 → a ≡ posted known rec → a .code ≡ 0 → w ≡ liveIn file held marks id → w ≡ At k → Amended known file held used rec marks true (set marks k (used * 2))
   amended-now id w a k i e z l h = record {
     if-so = λ q. record { place = k; passes = record { good = ap (λ (x : Answer). x .code) (sym e) ∙ z; there = sym (ap (liveIn file held marks) i) ∙ sym l ∙ h }; nowMarks = refl };
     if-not = λ q. absurd (clash refl q);
@@ -162,7 +163,7 @@ module _ (file : List ℕ) (held : ℕ) (id marks : List ℕ) where
   }
 
 -- where the consignment that is found stands
-module _ (file : List ℕ) (held : ℕ) (marks table id : List ℕ) (w : Place) (k : ℕ) (known : Noted file held marks table) (l : w ≡ liveIn file held marks id) (is : w ≡ At k) where
+module _ (file : List ℕ) (held : ℕ) (marks table id : List ℕ) (w : Place) (k : ℕ) (marking : Noted file held marks table) (l : w ≡ liveIn file held marks id) (is : w ≡ At k) where
   live-held : k < held
   unfolding liveFrom
   live-held = go (seek file 0 id held) (seek-small file 0 id held) (sym is ∙ l)
@@ -176,10 +177,10 @@ module _ (file : List ℕ) (held : ℕ) (marks table id : List ℕ) (w : Place) 
           on false q = omega (arith, at-once k j q, h)
 
   pub live-mark : k < length marks
-  live-mark = omega (arith, live-held, known .marked, known .places)
+  live-mark = omega (arith, live-held, marking .marked, marking .places)
 
   pub live-mark-fits : Fits w64 (k * 4)
-  live-mark-fits = record { fits = omega (arith, live-held, known .few) }
+  live-mark-fits = record { fits = omega (arith, live-held, marking .few) }
 
   pub mark-more-fits : Fits w32 (getD marks k 0 + 1)
-  mark-more-fits = record { fits = omega (arith, known .small k) }
+  mark-more-fits = record { fits = omega (arith, marking .small k) }

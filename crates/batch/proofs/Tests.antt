@@ -10,6 +10,7 @@ use native.Mathlib.Omega.{arith}
 use borrow.Author.Tests.{eqb-true}
 use lib.ListN.{length, getD, take, drop, length-append, length-drop, length-take, take-append-drop}
 use lib.Seq.{take-at, drop-at, take-add, drop-append-seam, drop-append-add, drop-drop, length-take-le}
+use Rattle.psc.specs.Table.{Known}
 use Rattle.text.specs.Bytes.{every, isZero}
 use Rattle.text.proofs.Booleans.{clash}
 use Rattle.record.specs.Readings.{cancelledRec}
@@ -74,8 +75,8 @@ unfolding every
 zeros-pass zero = refl
 zeros-pass (suc k) = zeros-pass k
 
-module _ (file journal : List ℕ) (c : Counts) (held last : ℕ) (marks table : List ℕ) (good : rightLengths (length file) (length journal) ≡ true)
-    (w : Walked file journal held (c .used) last marks table) where
+module _ {known : Known} (file journal : List ℕ) (c : Counts) (held last : ℕ) (marks table : List ℕ) (good : rightLengths (length file) (length journal) ≡ true)
+    (w : Walked known file journal held (c .used) last marks table) where
   abbrev b : Batch
   b = batchOf file journal c
 
@@ -88,8 +89,8 @@ module _ (file journal : List ℕ) (c : Counts) (held last : ℕ) (marks table :
   abbrev recs : List (List ℕ)
   recs = recordsOf (w .acts)
 
-  fits-so : Fits n m (w .acts)
-  fits-so = turns-fit posted posted-fit n m (w .acts) (w .turns)
+  fits-so : Fits known n m (w .acts)
+  fits-so = turns-fit (posted known) (posted-fit known) n m (w .acts) (w .turns)
 
   longs : Long recs
   longs = λ i h. fits-so .sheet .each i h .long
@@ -99,9 +100,9 @@ module _ (file journal : List ℕ) (c : Counts) (held last : ℕ) (marks table :
 
   pub marked-so : length journal ≤ 1048576 → Marked file journal held marks
   marked-so bounded = record {
-    few = w .known .few;
-    places = w .known .places;
-    marked = omega (arith, w .known .marked, w .known .places);
+    few = w .marking .few;
+    places = w .marking .places;
+    marked = omega (arith, w .marking .marked, w .marking .places);
     there = λ i h. omega (arith, mark-there i h);
     bounded = bounded;
   }
@@ -119,35 +120,35 @@ module _ (file journal : List ℕ) (c : Counts) (held last : ℕ) (marks table :
           omega (arith, long, length-take 399 (drop (getD marks i 0 / 2 + 4) journal), length-drop (getD marks i 0 / 2 + 4) journal)
 
   -- whatever stands is the list that was walked
-  same-acts : (s : State) → Stands posted b s → w .acts ≡ s .actions
+  same-acts : (s : State) → Stands (posted known) b s → w .acts ≡ s .actions
   same-acts s st =
       let bytes : entriesOf (w .acts) ≡ entriesOf (s .actions) = sym (w .front) ∙ used-bytes file journal c s st in
       Option·some-injective _ _
-      (sym (read-exactly (entriesOf (w .acts)) (w .acts) .1 (turns-sized posted n m [] (w .acts) (w .turns), refl))
-      ∙ read-exactly (entriesOf (w .acts)) (s .actions) .1 (turns-sized posted n m [] (s .actions) (st .turns), sym bytes))
+      (sym (read-exactly (entriesOf (w .acts)) (w .acts) .1 (turns-sized (posted known) n m [] (w .acts) (w .turns), refl))
+      ∙ read-exactly (entriesOf (w .acts)) (s .actions) .1 (turns-sized (posted known) n m [] (s .actions) (st .turns), sym bytes))
 
-  made-so : (s : State) → Stands posted b s → b ≡ made n m (state (w .acts))
+  made-so : (s : State) → Stands (posted known) b s → b ≡ made n m (state (w .acts))
   made-so s st = st .is ∙ ap (λ (xs : List Action). made n m (state xs)) (sym (same-acts s st))
 
-  pub held-wrong : (held ≡ c .held → ⊥) → (s : State) → Stands posted b s → ⊥
+  pub held-wrong : (held ≡ c .held → ⊥) → (s : State) → Stands (posted known) b s → ⊥
   unfolding made
   held-wrong other s st = other (sym (w .many) ∙ sym (ap (λ (x : Batch). x .counts .held) (made-so s st)))
 
-  file-made : (s : State) → Stands posted b s → file ≡ zeroFilled n (linesOf recs)
+  file-made : (s : State) → Stands (posted known) b s → file ≡ zeroFilled n (linesOf recs)
   unfolding made
   file-made s st = ap (λ (x : Batch). x .file) (made-so s st)
 
-  pub lines-wrong : (((i : ℕ) → i < held → LineAt file journal marks i) → ⊥) → (s : State) → Stands posted b s → ⊥
+  pub lines-wrong : (((i : ℕ) → i < held → LineAt file journal marks i) → ⊥) → (s : State) → Stands (posted known) b s → ⊥
   lines-wrong other s st =
       other (λ i h.
       ap (λ (t : List ℕ). take 401 (drop (i * 401) t)) (file-made s st)
       ∙ line-at recs (zeros (n - length (linesOf recs))) i longs (omega (arith, h, w .many)) ∙ ap lineOf (w .named i h))
 
-  pub rest-wrong : every isZero (drop (held * 401) file) ≡ false → (s : State) → Stands posted b s → ⊥
+  pub rest-wrong : every isZero (drop (held * 401) file) ≡ false → (s : State) → Stands (posted known) b s → ⊥
   rest-wrong e s st =
       clash (ap (λ (t : List ℕ). every isZero (drop (held * 401) t)) (file-made s st) ∙ ap (every isZero) (drop-at (linesOf recs) _ (held * 401) lines-are-long) ∙ zeros-pass (n - length (linesOf recs))) e
 
-  pub journal-wrong : every isZero (drop (c .used) journal) ≡ false → (s : State) → Stands posted b s → ⊥
+  pub journal-wrong : every isZero (drop (c .used) journal) ≡ false → (s : State) → Stands (posted known) b s → ⊥
   unfolding made
   journal-wrong e s st =
       clash (ap (λ (x : Batch). every isZero (drop (x .counts .used) (x .journal))) (made-so s st) ∙ ap (every isZero) (drop-append-seam (entriesOf (w .acts)) _) ∙ zeros-pass (m - length (entriesOf (w .acts)))) e
@@ -172,7 +173,7 @@ module _ (file journal : List ℕ) (c : Counts) (held last : ℕ) (marks table :
     totals-are : totalsOver file (c .held) ≡ totalsOf recs
     totals-are = (λ i. totalsOver (file-is i) ((sym same-held ∙ sym (w .many)) i)) ∙ totals-view n recs (fits-so .sheet)
 
-    pub test-passes : totalsOver file (c .held) ≡ c .totals → Found b last
+    pub test-passes : totalsOver file (c .held) ≡ c .totals → Found known b last
     unfolding made
     test-passes t = record {
       what = state (w .acts);
@@ -184,6 +185,6 @@ module _ (file journal : List ℕ) (c : Counts) (held last : ℕ) (marks table :
       latest = w .latest;
     }
 
-    pub totals-wrong : (totalsOver file (c .held) ≡ c .totals → ⊥) → (s : State) → Stands posted b s → ⊥
+    pub totals-wrong : (totalsOver file (c .held) ≡ c .totals → ⊥) → (s : State) → Stands (posted known) b s → ⊥
     unfolding made
     totals-wrong other s st = other (totals-are ∙ sym (ap (λ (x : Batch). x .counts .totals) (made-so s st)))

@@ -8,8 +8,10 @@ use native.Mathlib.Nat.{add-zero}
 use native.Mathlib.Omega.{arith}
 use lib.ListN.{length, getD, take, drop}
 use lib.Seq.{split-at, set-split}
+use Rattle.psc.specs.Table.{Known}
 use Rattle.layout.specs.Layout.{fieldOf}
 use Rattle.fields.proofs.OtherLaws.{live-exactly, cancelled-exactly}
+use Rattle.record.specs.Rules.{inFile}
 use Rattle.record.proofs.Order.{accepted-exactly}
 use Rattle.record.proofs.Status.{posting-passes, cancelled-rec-status}
 use Rattle.posting.specs.declared.Totals.{Totals}
@@ -57,7 +59,7 @@ module _ (t rest : Totals) (x old : List ℕ) (there : x ≡ old) (before : t �
   cancelled = rw (there, before) (struck rest (cashIn old) (priceIn old))
 
 -- ---- the totals around the record that is touched
-module _ (recs : List (List ℕ)) (s : Sheet recs) (t id : List ℕ) (m : Touched recs s t id) (live : isCancelledThere recs id ≡ false) where
+module _ {known : Known} (recs : List (List ℕ)) (s : Sheet known recs) (t id : List ℕ) (m : Touched recs s t id) (live : isCancelledThere recs id ≡ false) where
   abbrev old : List ℕ
   old = getD recs (m .place) []
 
@@ -95,31 +97,31 @@ module _ (recs : List (List ℕ)) (s : Sheet recs) (t id : List ℕ) (m : Touche
       ∙ sym (totals-after cancelledRec ∙ cancelled-more rest (cancelledRec old) (cancelled-rec-status old (s .each (m .place) (m .within) .long)))
 
 -- ---- the totals of a batch, and what an action makes of them
-module _ (n : ℕ) (recs : List (List ℕ)) (s : Sheet recs) where
+module _ {known : Known} (n : ℕ) (recs : List (List ℕ)) (s : Sheet known recs) where
   abbrev behind : List ℕ
   behind = zeros (n - length (linesOf recs))
 
   pub totals-view : totalsOver (zeroFilled n (linesOf recs)) (length recs) ≡ totalsOf recs
   totals-view = totals-there recs behind (long-of recs s)
 
-  pub totals-step : (journal : List ℕ) (used : ℕ) (a : Action) → actionRule posted recs (n / 401) a .code ≡ 0
+  pub totals-step : (journal : List ℕ) (used : ℕ) (a : Action) → actionRule (posted known) recs (n / 401) a .code ≡ 0
       → actionTotals (batchOf (zeroFilled n (linesOf recs)) journal (countsOf (totalsOf recs) (length recs) used)) (numberOf a) (bodyOf a) ≡ totalsOf (recordsAfter recs a)
   totals-step journal used (Addition rec) z =
-      let p = posting-passes rec (adds posted recs (n / 401) rec z .passes) in
+      let p = posting-passes known rec (adds (posted known) recs (n / 401) rec z .passes) in
       let all : recs ++ [] ≡ recs = append-nil recs in
       sym (totals-more recs rec [] ∙ ap (λ (l : List (List ℕ)). withRecord (totalsOf l) rec) all ∙ live-more (totalsOf recs) rec (p .1))
   totals-step journal used (Amendment rec) z =
-      let p = amends posted recs (n / 401) rec z in
-      amend-step recs s behind (idOf rec) (touched recs s behind (idOf rec) (p .1)) (p .2) rec (posting-passes rec (p .0) .1)
+      let p = amends (posted known) recs (n / 401) rec z in
+      amend-step recs s behind (idOf rec) (touched recs s behind (idOf rec) (p .1)) (p .2) rec (posting-passes known rec (p .0) .1)
   totals-step journal used (Cancellation id) z =
-      let p = cancels posted recs (n / 401) id z in
+      let p = cancels (posted known) recs (n / 401) id z in
       cancel-step recs s behind id (touched recs s behind id (p .0)) (p .1)
 
 -- ---- the file, cut behind its last record
-pub good-records : (recs : List (List ℕ)) → Sheet recs → length recs ≤ 999 → GoodRecords recs
-good-records recs s few = record {
+pub good-records : {known : Known} (recs : List (List ℕ)) → Sheet known recs → length recs ≤ 999 → GoodRecords known recs
+good-records {known} recs s few = record {
   few = few;
   wide = long-of recs s;
-  keeps = λ i h. accepted-exactly false (getD recs i []) (s .each i h .long) .0 (s .each i h .passes);
+  keeps = λ i h. accepted-exactly (inFile known) (getD recs i []) (s .each i h .long) .0 (s .each i h .passes);
   apart = λ i j l h e. let same = s .apart i j (omega arith) h e in omega arith;
 }

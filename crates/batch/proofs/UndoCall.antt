@@ -5,6 +5,7 @@ use mathlib.Core.Path.{_≡_, refl, sym, ap, _∙_}
 use mathlib.Core.List.{List, [], _∷_, _++_}
 use native.Mathlib.Omega.{arith}
 use lib.ListN.{length, length-append}
+use Rattle.psc.specs.Search.{found}
 use Rattle.text.specs.declared.Answer.{Answer}
 use Rattle.text.specs.Answers.{answer, accepted}
 use Rattle.text.specs.Lists.{overlay}
@@ -20,7 +21,7 @@ use Rattle.batch.proofs.ZeroFilled.{filled-less}
 use Rattle.batch.proofs.Reading.{entry-some}
 use Rattle.batch.proofs.Verdicts.{posted-fit}
 use Rattle.batch.proofs.Made.{entries-last, turns-fit, answered-by-rules, accepted-leaves}
-use Rattle.batch.proofs.CallWays.{is-other, refused-as}
+use Rattle.batch.proofs.CallWays.{is-other, refused-as, done-as}
 
 latest-split : (a : Action) (xs : List Action) → (l : Action) × (withoutLatest (a ∷ xs) ++ l ∷ [] ≡ a ∷ xs)
 latest-split a [] = (a, refl)
@@ -30,12 +31,12 @@ no-entries : (xs : List Action) → length (entriesOf xs) ≡ 0 → xs ≡ []
 no-entries [] e = refl
 no-entries (a ∷ xs) e = absurd (omega (arith, e, length-append (entryOf a) (entriesOf xs), entry-some a))
 
-module _ (file journal : List ℕ) (c : Counts) (g : Gate) (eg : Guarded (batchOf file journal c) g) (z : g .answer .code ≡ 0) where
+module _ (psc file journal : List ℕ) (c : Counts) (g : Gate) (eg : Guarded psc (batchOf file journal c) g) (z : g .answer .code ≡ 0) where
   abbrev this : Batch
   this = batchOf file journal c
 
-  here : Found this (g .last)
-  here = eg .if-so z
+  here : Found (found psc) this (g .last)
+  here = eg .if-so z .found
 
   abbrev acts : List Action
   acts = here .what .actions
@@ -48,15 +49,15 @@ module _ (file journal : List ℕ) (c : Counts) (g : Gate) (eg : Guarded (batchO
   unfolding made
   journal-is = ap (λ (x : Batch). x .journal) (here .stands .is)
 
-  pub undo-none : c .used ≡ 0 → Called this Undo (answer 234 0) c file journal
+  pub undo-none : c .used ≡ 0 → Called psc this Undo (answer 234 0) c file journal
   unfolding rules
   undo-none e =
-      refused-as file journal c g eg Undo (is-other Undo refl) refl (answer 234 0)
-      (answered-by-rules posted this (here .what) (here .stands) Undo ∙ ap undoRule (no-entries acts (sym used-is ∙ e))) (λ q. omega (arith, q))
+      refused-as psc file journal c g eg Undo (is-other Undo refl) refl z (answer 234 0)
+      (answered-by-rules (posted (found psc)) this (here .what) (here .stands) Undo ∙ ap undoRule (no-entries acts (sym used-is ∙ e))) (λ q. omega (arith, q))
 
   module _ (n : c .used ≡ 0 → ⊥) where
     pub undo-ready : Undoable file journal c (g .last)
-    undo-ready = record { found = here; some = n }
+    undo-ready = record { known = found psc; found = here; some = n }
 
     split-so : (l : Action) × (withoutLatest acts ++ l ∷ [] ≡ acts)
     split-so = go acts used-is
@@ -72,9 +73,9 @@ module _ (file journal : List ℕ) (c : Counts) (g : Gate) (eg : Guarded (batchO
     sizes = omega (arith, used-is, ap length parts, length-append (entriesOf (withoutLatest acts)) (entryOf (split-so .0)), here .latest)
 
     pub undo-reach : (g .last ≤ c .used) × (c .used ≤ length journal)
-    undo-reach = (omega (arith, sizes), omega (arith, used-is, turns-fit posted posted-fit (length file) (length journal) acts (here .stands .turns) .room))
+    undo-reach = (omega (arith, sizes), omega (arith, used-is, turns-fit (posted (found psc)) (posted-fit (found psc)) (length file) (length journal) acts (here .stands .turns) .room))
 
-    accepts : rules posted (length file) (length journal) (here .what) Undo ≡ accepted
+    accepts : rules (posted (found psc)) (length file) (length journal) (here .what) Undo ≡ accepted
     unfolding rules
     accepts = go acts used-is
       where
@@ -93,12 +94,9 @@ module _ (file journal : List ℕ) (c : Counts) (g : Gate) (eg : Guarded (batchO
         (λ i. overlay ((journal-is ∙ ap (zeroFilled (length journal)) parts) i) (here .latest i) (zeros (size i)))
         ∙ filled-less (length journal) (entriesOf (withoutLatest acts)) (entryOf (split-so .0)) room
 
-    pub undo-done : (r : Counts) (file′ journal′ : List ℕ) → TakenBack file journal c (g .last) r file′ → journal′ ≡ overlay journal (g .last) (zeros (c .used - g .last)) → Called this Undo accepted r file′ journal′
+    pub undo-done : (r : Counts) (file′ journal′ : List ℕ) → TakenBack file journal c (g .last) r file′ → journal′ ≡ overlay journal (g .last) (zeros (c .used - g .last)) → Called psc this Undo accepted r file′ journal′
     undo-done r file′ journal′ t ej =
-        let left : after posted this Undo ≡ back = accepted-leaves posted this (here .what) (here .stands) Undo (ap (λ (x : Answer). x .code) accepts) in
-        record {
-          answers = sym (answered-by-rules posted this (here .what) (here .stands) Undo ∙ accepts);
-          counted = t .counted (here .what) (here .stands) ∙ ap (λ (x : Batch). x .counts) (sym left);
-          filed = t .filed (here .what) (here .stands) ∙ ap (λ (x : Batch). x .file) (sym left);
-          journaled = ej ∙ journal-back ∙ ap (λ (x : Batch). x .journal) (sym left);
-        }
+        let left : after (posted (found psc)) this Undo ≡ back = accepted-leaves (posted (found psc)) this (here .what) (here .stands) Undo (ap (λ (x : Answer). x .code) accepts) in
+        let made-so : batchOf file′ journal′ r ≡ back = λ i. batchOf (t .filed (found psc) (here .what) (here .stands) i) ((ej ∙ journal-back) i) (t .counted (found psc) (here .what) (here .stands) i) in
+        done-as psc file journal c g eg Undo (is-other Undo refl) refl z accepted r file′ journal′
+        (sym (answered-by-rules (posted (found psc)) this (here .what) (here .stands) Undo ∙ accepts)) (made-so ∙ sym left)

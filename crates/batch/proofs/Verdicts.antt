@@ -7,9 +7,10 @@ use mathlib.Core.List.{List, [], _∷_}
 use borrow.Author.Tests.{eq-eqb, eqb-true}
 use lib.Dec.{eqb}
 use lib.ListN.{length}
+use Rattle.psc.specs.Table.{Known}
 use Rattle.text.proofs.Booleans.{both}
 use Rattle.record.specs.Codes.{lacks, tableCodes}
-use Rattle.record.specs.Rules.{table, recordAnswer}
+use Rattle.record.specs.Rules.{toPost, table, recordAnswer}
 use Rattle.record.proofs.Codes.{codes-in-order, lacks-other}
 use Rattle.record.proofs.Order.{none-other}
 use Rattle.record.proofs.Status.{posting-passes}
@@ -35,11 +36,11 @@ pub table-apart : (c : ℕ) → lacks c tableCodes ≡ false → lacks c (0 ∷ 
 unfolding lacks apart
 table-apart c there = none-of c (0 ∷ batchCodes) tableCodes refl (λ d l. lacks-other d c tableCodes there l)
 
-pub posted-fit : Fit posted
+pub posted-fit : (known : Known) → Fit known (posted known)
 unfolding lacks apart recordAnswer
-posted-fit = record {
-  long = λ rec z. posting-passes rec z .0;
-  blank = λ rec z. posting-passes rec z .1;
-  passes = λ rec z. posting-passes rec z .2;
-  others = λ rec long. rw (eq-eqb (length rec) 399 long) (none-of _ batchCodes (0 ∷ tableCodes) refl (λ c l. none-other c (table true rec) (ap (λ (cs : List ℕ). lacks c (0 ∷ cs)) (codes-in-order true rec) ∙ l)));
+posted-fit known = record {
+  long = λ rec z. posting-passes known rec z .0;
+  blank = λ rec z. posting-passes known rec z .1;
+  passes = λ rec z. posting-passes known rec z .2;
+  others = λ rec long. rw (eq-eqb (length rec) 399 long) (none-of _ batchCodes (0 ∷ tableCodes) refl (λ c l. none-other c (table (toPost known) rec) (ap (λ (cs : List ℕ). lacks c (0 ∷ cs)) (codes-in-order (toPost known) rec) ∙ l)));
 }

@@ -7,6 +7,7 @@ use mathlib.Core.List.{List, []}
 use native.Mathlib.Omega.{arith}
 use borrow.Author.Tests.{not-true, not-false}
 use lib.ListN.{length}
+use Rattle.psc.specs.Table.{Known}
 use Rattle.text.proofs.Booleans.{clash}
 use Rattle.batch.specs.declared.test.Reached.{Reached}
 use Rattle.batch.specs.Actions.{entryOf}
@@ -15,15 +16,15 @@ use Rattle.batch.specs.Test.{heldAfter, StepTaken, Stepped, Stepping, Wa
 use Rattle.batch.proofs.Reading.{entry-some}
 use Rattle.batch.proofs.Walks.{walk-on, walk-stuck}
 
-pub record Going (file journal : List ℕ) (end : ℕ) (marks₀ table₀ marks table : List ℕ) (held used last : ℕ) : Type 0 where
-  pub walked : Walked file journal held used last marks table
+pub record Going (known : Known) (file journal : List ℕ) (end : ℕ) (marks₀ table₀ marks table : List ℕ) (held used last : ℕ) : Type 0 where
+  pub walked : Walked known file journal held used last marks table
   pub before : used ≤ end
   pub within : end ≤ length journal
   pub bounded : length journal ≤ 1048576
   pub marksLong : length marks ≡ length marks₀
   pub tableLong : length table ≡ length table₀
 
-pub walk-starts : (file journal : List ℕ) (end : ℕ) (marks table : List ℕ) → Fresh file journal end marks table → Going file journal end marks table marks table 0 0 0
+pub walk-starts : {known : Known} (file journal : List ℕ) (end : ℕ) (marks table : List ℕ) → Fresh file journal end marks table → Going known file journal end marks table marks table 0 0 0
 unfolding inTurnBehind
 walk-starts file journal end marks table f = record {
   walked = record {
@@ -35,7 +36,7 @@ walk-starts file journal end marks table f = record {
     struck = λ i h. absurd (omega arith);
     ids = λ i h. absurd (omega arith);
     latest = refl;
-    known = f .known;
+    marking = f .marking;
   };
   before = omega arith;
   within = f .within;
@@ -44,32 +45,32 @@ walk-starts file journal end marks table f = record {
   tableLong = refl;
 }
 
-module _ (file journal : List ℕ) (end : ℕ) (marks₀ table₀ marks table : List ℕ) (held used last : ℕ) (g : Going file journal end marks₀ table₀ marks table held used last) (more : used < end) where
+module _ {known : Known} (file journal : List ℕ) (end : ℕ) (marks₀ table₀ marks table : List ℕ) (held used last : ℕ) (g : Going known file journal end marks₀ table₀ marks table held used last) (more : used < end) where
   pub going-steps : Stepping file journal end held used marks table
-  going-steps = record { known = g .walked .known; before = g .before; within = g .within; bounded = g .bounded }
+  going-steps = record { marking = g .walked .marking; before = g .before; within = g .within; bounded = g .bounded }
 
-  module _ (r : Reached) (marks′ table′ : List ℕ) (s : Stepped file journal end held used marks table r marks′ table′) where
-    pub walk-fails : not (r .good) ≡ true → WalkedTo file journal end table₀ r marks′ table′
+  module _ (r : Reached) (marks′ table′ : List ℕ) (s : Stepped known file journal end held used marks table r marks′ table′) where
+    pub walk-fails : not (r .good) ≡ true → WalkedTo known file journal end table₀ r marks′ table′
     walk-fails n = record {
       if-so = λ q. absurd (clash q (not-true (r .good) n));
       if-not = λ q c ec state st. walk-stuck file journal held used last end marks table (g .walked) more (g .within) c ec state st (s .if-not q);
     }
 
     module _ (n : not (r .good) ≡ false) where
-      step-so : StepTaken file journal end held used marks r marks′ table′
+      step-so : StepTaken known file journal end held used marks r marks′ table′
       step-so = s .if-so (not-false (r .good) n)
 
       pub going-less : end - r .used < end - used
       going-less = omega (arith, more, step-so .moves, entry-some (step-so .action))
 
-      pub going-on : length marks′ ≡ length marks → Going file journal end marks₀ table₀ marks′ table′ (r .held) (r .used) (r .last)
+      pub going-on : length marks′ ≡ length marks → Going known file journal end marks₀ table₀ marks′ table′ (r .held) (r .used) (r .last)
       going-on long =
           let t = step-so in
           let w = walk-on file journal held used last marks table (g .walked) end (g .before) (g .within) (t .action) (t .entry) (g .bounded) marks′ table′ (s .long) (t .taken) in
           record {
-            walked = subst (λ (h : ℕ). Walked file journal h (r .used) (r .last) marks′ table′) (sym (t .holds))
-                (subst (λ (u : ℕ). Walked file journal (heldAfter held (t .action)) u (r .last) marks′ table′) (sym (t .moves))
-                (subst (λ (l : ℕ). Walked file journal (heldAfter held (t .action)) (used + length (entryOf (t .action))) l marks′ table′) (sym (t .from)) w));
+            walked = subst (λ (h : ℕ). Walked known file journal h (r .used) (r .last) marks′ table′) (sym (t .holds))
+                (subst (λ (u : ℕ). Walked known file journal (heldAfter held (t .action)) u (r .last) marks′ table′) (sym (t .moves))
+                (subst (λ (l : ℕ). Walked known file journal (heldAfter held (t .action)) (used + length (entryOf (t .action))) l marks′ table′) (sym (t .from)) w));
             before = omega (arith, t .moves, t .entry .within);
             within = g .within;
             bounded = g .bounded;
@@ -77,8 +78,8 @@ module _ (file journal : List ℕ) (end : ℕ) (marks₀ table₀ marks table : 
             tableLong = s .long ∙ g .tableLong;
           }
 
-pub walk-ends : (file journal : List ℕ) (end : ℕ) (marks₀ table₀ marks table : List ℕ) (held used last : ℕ) → Going file journal end marks₀ table₀ marks table held used last → end ≤ used
-    → WalkedTo file journal end table₀ (record { good = true; held = held; used = used; last = last }) marks table
-walk-ends file journal end marks₀ table₀ marks table held used last g h =
+pub walk-ends : {known : Known} (file journal : List ℕ) (end : ℕ) (marks₀ table₀ marks table : List ℕ) (held used last : ℕ) → Going known file journal end marks₀ table₀ marks table held used last → end ≤ used
+    → WalkedTo known file journal end table₀ (record { good = true; held = held; used = used; last = last }) marks table
+walk-ends {known} file journal end marks₀ table₀ marks table held used last g h =
     let same : used ≡ end = omega (arith, h, g .before) in
-    record { if-so = λ q. subst (λ (u : ℕ). Walked file journal held u last marks table) same (g .walked); if-not = λ q. absurd (clash refl q) }
+    record { if-so = λ q. subst (λ (u : ℕ). Walked known file journal held u last marks table) same (g .walked); if-not = λ q. absurd (clash refl q) }

@@ -10,6 +10,7 @@ use borrow.Author.Tests.{eq-eqb, ne-eqb, eqb-true, eqb-false, lt-ltb, ltb-true, 
 use lib.Dec.{eqb, ltb}
 use lib.ListN.{length, getD, set, take, drop, length-append, length-drop, length-set, take-append-drop}
 use lib.Seq.{getD-set-same, getD-set-other, getD-append-seam, take-append-seam, take-add, length-take-le}
+use Rattle.psc.specs.Table.{Known}
 use Rattle.text.specs.Answers.{answer, accepted, orElse}
 use Rattle.text.specs.Lists.{sameBytes}
 use Rattle.text.proofs.Booleans.{clash}
@@ -23,7 +24,7 @@ use Rattle.batch.specs.declared.test.Place.the-variants.{At, Nowhere}
 use mathlib.Core.Option.{Option·some-injective}
 use Rattle.batch.specs.Actions.{Action, Addition, Amendment, Cancellation, kinds, kindOf, numberOf, bodyOf, sized, allSized, entryLength, entryOf, entriesOf, Entry, firstEntry}
 use Rattle.batch.specs.Records.{idOf, hasId, isCancelledRec, replacedBy, cancelledFor, recordsAfter, recordsFrom, recordsOf}
-use Rattle.batch.specs.Rules.{posted, isPresent, isCancelledThere, liveRule, actionRule, entryRule, ruleBehind, inTurnBehind, inTurn}
+use Rattle.batch.specs.Rules.{Verdict, posted, isPresent, isCancelledThere, liveRule, actionRule, entryRule, ruleBehind, inTurnBehind, inTurn}
 use Rattle.posting.specs.Records.{linesOf}
 use Rattle.batch.specs.Batch.{Batch, batchOf, State, zeros, zeroFilled, made, withoutLatest, Stands}
 use Rattle.posting.proofs.PrintedLines.{id-there}
@@ -117,9 +118,9 @@ pub is-struck : (rec : List ℕ) → length rec ≡ 399 → isCancelledRec (canc
 unfolding sameBytes
 is-struck rec long = rw (cancelled-rec-status rec long)
 
-pub not-struck : (rec : List ℕ) → posted rec .code ≡ 0 → isCancelledRec rec ≡ false
+pub not-struck : (known : Known) (rec : List ℕ) → posted known rec .code ≡ 0 → isCancelledRec rec ≡ false
 unfolding sameBytes
-not-struck rec z = rw (posted-fit .blank rec z)
+not-struck known rec z = rw ((posted-fit known) .blank rec z)
 
 -- what is kept of place i
 record Right (file journal : List ℕ) (recs : List (List ℕ)) (marks : List ℕ) (i : ℕ) : Type 0 where
@@ -186,7 +187,7 @@ without-latest (x ∷ []) a = refl
 without-latest (x ∷ y ∷ xs) a = ap (λ (t : List Action). x ∷ t) (without-latest (y ∷ xs) a)
 
 -- ---- the walk so far
-module _ (file journal : List ℕ) (held used last : ℕ) (marks table : List ℕ) (w : Walked file journal held used last marks table) where
+module _ {known : Known} (file journal : List ℕ) (held used last : ℕ) (marks table : List ℕ) (w : Walked known file journal held used last marks table) where
   abbrev n : ℕ
   n = length file
 
@@ -196,8 +197,8 @@ module _ (file journal : List ℕ) (held used last : ℕ) (marks table : List �
   abbrev recs : List (List ℕ)
   recs = recordsOf (w .acts)
 
-  fit-so : Fits n m (w .acts)
-  fit-so = turns-fit posted posted-fit n m (w .acts) (w .turns)
+  fit-so : Fits known n m (w .acts)
+  fit-so = turns-fit (posted known) (posted-fit known) n m (w .acts) (w .turns)
 
   used-is : used ≤ m → length (entriesOf (w .acts)) ≡ used
   used-is h = ap length (sym (w .front)) ∙ length-take-le used journal h
@@ -265,17 +266,17 @@ module _ (file journal : List ℕ) (held used last : ℕ) (marks table : List �
     room-so : entryLength (kindOf a) ≤ m - length (entriesOf (w .acts))
     room-so = omega (arith, e .within, entry-long a (e .size), used-is (omega (arith, before, within)))
 
-    meets-rule : (b : Action) → Meets file held marks b → actionRule posted recs (n / 401) b .code ≡ 0
+    meets-rule : (b : Action) → Meets known file held marks b → actionRule (posted known) recs (n / 401) b .code ≡ 0
     unfolding actionRule orElse
     meets-rule (Addition rec) p =
         let few : length recs < n / 401 = omega (arith, p .room, w .many) in
-        rw (eq-eqb (posted rec .code) 0 (p .good), absent-if (idOf rec) (p .new), lt-ltb (length recs) (n / 401) few)
-    meets-rule (Amendment rec) p = rw (eq-eqb (posted rec .code) 0 (p .1 .good), live-rules (idOf rec) (p .0) (p .1 .there))
+        rw (eq-eqb (posted known rec .code) 0 (p .good), absent-if (idOf rec) (p .new), lt-ltb (length recs) (n / 401) few)
+    meets-rule (Amendment rec) p = rw (eq-eqb (posted known rec .code) 0 (p .1 .good), live-rules (idOf rec) (p .0) (p .1 .there))
     meets-rule (Cancellation id) p = rw (p .1 .right, live-rules id (p .0) (p .1 .there))
 
-    pub acceptable : Meets file held marks a → ruleBehind posted n m (w .acts) a .code ≡ 0
+    pub acceptable : Meets known file held marks a → ruleBehind (posted known) n m (w .acts) a .code ≡ 0
     unfolding entryRule orElse
-    acceptable p = rw (e .size, eq-eqb (actionRule posted recs (n / 401) a .code) 0 (meets-rule a p), le-leb (entryLength (kindOf a)) (m - length (entriesOf (w .acts))) room-so)
+    acceptable p = rw (e .size, eq-eqb (actionRule (posted known) recs (n / 401) a .code) 0 (meets-rule a p), le-leb (entryLength (kindOf a)) (m - length (entriesOf (w .acts))) room-so)
 
     -- ---- and it leads on
     body-so : (b : Action) → EntryAt journal end used b → bodyAt journal used (numberOf b) ≡ bodyOf b
@@ -285,15 +286,15 @@ module _ (file journal : List ℕ) (held used last : ℕ) (marks table : List �
     right-at i h = record { named = w .named i h; struck = w .struck i h; own = w .ids i h }
 
     mark-there : (k : ℕ) → k < held → k < length marks
-    mark-there k h = omega (arith, h, w .known .marked, w .known .places)
+    mark-there k h = omega (arith, h, w .marking .marked, w .marking .places)
 
-    rights : (b : Action) → EntryAt journal end used b → (p : Meets file held marks b) → (i : ℕ) → i < heldAfter held b
-        → Right file journal (recordsAfter recs b) (marksAfter file held used marks b p) i
+    rights : (b : Action) → EntryAt journal end used b → (p : Meets known file held marks b) → (i : ℕ) → i < heldAfter held b
+        → Right file journal (recordsAfter recs b) (marksAfter known file held used marks b p) i
     rights (Addition rec) x p i h =
         subst (λ (t : ℕ). Right file journal (recs ++ rec ∷ []) (set marks t (used * 2)) i) (w .many)
-        (right-last file journal recs marks rec (used * 2) (omega (arith, p .room, w .many, w .known .marked))
+        (right-last file journal recs marks rec (used * 2) (omega (arith, p .room, w .many, w .marking .marked))
         (sym (body-so (Addition rec) x) ∙ sym (fresh-record journal used))
-        (not-struck rec (p .good) ∙ sym (even-mark used))
+        (not-struck known rec (p .good) ∙ sym (even-mark used))
         (ap (keyAt file 0) (w .many) ∙ p .own)
         (λ j g. right-at j (omega (arith, g, w .many))) i (omega (arith, h, w .many)))
     rights (Amendment rec) x p i h =
@@ -301,7 +302,7 @@ module _ (file journal : List ℕ) (held used last : ℕ) (marks table : List �
         subst (λ (r : List (List ℕ)). Right file journal r (set marks (p .0) (used * 2)) i) (sym (changed-there recs (fit-so .sheet) (idOf rec) (p .0) (at .sits) (at .its) (λ old. rec)))
         (right-set file journal recs marks rec (p .0) (used * 2) (at .sits) (mark-there (p .0) (at .within))
         (sym (body-so (Amendment rec) x) ∙ sym (fresh-record journal used))
-        (not-struck rec (p .1 .good) ∙ sym (even-mark used))
+        (not-struck known rec (p .1 .good) ∙ sym (even-mark used))
         (sym (same-exactly _ _ .0 (at .its))) i (right-at i h))
     rights (Cancellation id) x p i h =
         let both = live-here id (p .0) (p .1 .there) in
@@ -314,7 +315,7 @@ module _ (file journal : List ℕ) (held used last : ℕ) (marks table : List �
         (is-struck old (fit-so .sheet .each (p .0) (at .sits) .long) ∙ sym (odd-mark mark (both .1)))
         (cancelled-rec-others old 1 (λ q. omega (arith, q))) i (right-at i h))
 
-    marks-long : (b : Action) (p : Meets file held marks b) → length (marksAfter file held used marks b p) ≡ length marks
+    marks-long : (b : Action) (p : Meets known file held marks b) → length (marksAfter known file held used marks b p) ≡ length marks
     marks-long (Addition rec) p = length-set marks held (used * 2)
     marks-long (Amendment rec) p = length-set marks (p .0) (used * 2)
     marks-long (Cancellation id) p = length-set marks (p .0) (getD marks (p .0) 0 + 1)
@@ -331,24 +332,24 @@ module _ (file journal : List ℕ) (held used last : ℕ) (marks table : List �
       where
         go : (t : Bool) → eqb i k ≡ t → getD (set marks k mark) i 0 / 2 ≤ 1048576
         go true q = subst (λ (j : ℕ). getD (set marks k mark) j 0 / 2 ≤ 1048576) (sym (eqb-true i k q)) (set-small k mark h)
-        go false q = rw (getD-set-other marks k i mark 0 (eqb-false i k q)) (w .known .small i)
+        go false q = rw (getD-set-other marks k i mark 0 (eqb-false i k q)) (w .marking .small i)
 
-    small-after : (b : Action) (p : Meets file held marks b) → used ≤ 1048576 → (i : ℕ) → getD (marksAfter file held used marks b p) i 0 / 2 ≤ 1048576
+    small-after : (b : Action) (p : Meets known file held marks b) → used ≤ 1048576 → (i : ℕ) → getD (marksAfter known file held used marks b p) i 0 / 2 ≤ 1048576
     small-after (Addition rec) p u i = small-set held (used * 2) (omega (arith, u)) i
     small-after (Amendment rec) p u i = small-set (p .0) (used * 2) (omega (arith, u)) i
     small-after (Cancellation id) p u i =
         let even = live-here id (p .0) (p .1 .there) .1 in
-        small-set (p .0) (getD marks (p .0) 0 + 1) (subst (λ (h : ℕ). h ≤ 1048576) (sym (same-half (getD marks (p .0) 0) even)) (w .known .small (p .0))) i
+        small-set (p .0) (getD marks (p .0) 0 + 1) (subst (λ (h : ℕ). h ≤ 1048576) (sym (same-half (getD marks (p .0) 0) even)) (w .marking .small (p .0))) i
 
-    pub walk-on : length journal ≤ 1048576 → (marks′ table′ : List ℕ) → length table′ ≡ length table → Taken file held used marks a marks′ table′
-        → Walked file journal (heldAfter held a) (used + length (entryOf a)) used marks′ table′
+    pub walk-on : length journal ≤ 1048576 → (marks′ table′ : List ℕ) → length table′ ≡ length table → Taken known file held used marks a marks′ table′
+        → Walked known file journal (heldAfter held a) (used + length (entryOf a)) used marks′ table′
     walk-on bounded marks′ table′ long t =
         let p = t .meets in
         let after : recordsOf (w .acts ++ a ∷ []) ≡ recordsAfter recs a = records-last [] (w .acts) a in
         let right : (i : ℕ) → i < heldAfter held a → Right file journal (recordsOf (w .acts ++ a ∷ [])) marks′ i =
         λ i h. subst (λ (r : List (List ℕ)). Right file journal r marks′ i) (sym after) (subst (λ (ms : List ℕ). Right file journal (recordsAfter recs a) ms i) (sym (t .left)) (rights a e p i h)) in
-        let turns = turns-last posted n m (w .acts) a (w .turns) (acceptable p) in
-        let fits = turns-fit posted posted-fit n m (w .acts ++ a ∷ []) turns in
+        let turns = turns-last (posted known) n m (w .acts) a (w .turns) (acceptable p) in
+        let fits = turns-fit (posted known) (posted-fit known) n m (w .acts ++ a ∷ []) turns in
         let many : length (recordsOf (w .acts ++ a ∷ [])) ≡ heldAfter held a = ap length after ∙ length-after recs a ∙ ap (λ (h : ℕ). heldAfter h a) (w .many) in
         record {
           acts = w .acts ++ a ∷ [];
@@ -359,14 +360,14 @@ module _ (file journal : List ℕ) (held used last : ℕ) (marks table : List �
           struck = λ i h. right i h .struck;
           ids = λ i h. right i h .own;
           latest = sym (used-is (omega (arith, before, within))) ∙ ap (λ (xs : List Action). length (entriesOf xs)) (sym (without-latest (w .acts) a));
-          known = record {
-            few = omega (arith, many, fits .places, w .known .bounds);
+          marking = record {
+            few = omega (arith, many, fits .places, w .marking .bounds);
             places = subst (λ (h : ℕ). h * 401 ≤ n) many (fits .places);
-            marked = omega (arith, w .known .marked, ap length (t .left), marks-long a p);
+            marked = omega (arith, w .marking .marked, ap length (t .left), marks-long a p);
             noted = t .noted;
-            room = omega (arith, w .known .room, long);
+            room = omega (arith, w .marking .room, long);
             small = λ i. subst (λ (ms : List ℕ). getD ms i 0 / 2 ≤ 1048576) (sym (t .left)) (small-after a p (omega (arith, before, within, bounded)) i);
-            bounds = w .known .bounds;
+            bounds = w .marking .bounds;
           };
         }
 
@@ -401,42 +402,42 @@ sized-at [] a ys h = and-eq-true-iff (sized a) (allSized ys) .0 h .0
 sized-at (x ∷ xs) a ys h = sized-at xs a ys (and-eq-true-iff (sized x) (allSized (xs ++ a ∷ ys)) .0 h .1)
 
 -- an action within a list is acceptable in its turn
-pub turn-at : (n m : ℕ) (before xs : List Action) (a : Action) (ys : List Action) → inTurnBehind posted n m before (xs ++ a ∷ ys) ≡ true → ruleBehind posted n m (before ++ xs) a .code ≡ 0
+pub turn-at : (v : Verdict) (n m : ℕ) (before xs : List Action) (a : Action) (ys : List Action) → inTurnBehind v n m before (xs ++ a ∷ ys) ≡ true → ruleBehind v n m (before ++ xs) a .code ≡ 0
 unfolding inTurnBehind
-turn-at n m before [] a ys t =
-    let p = and-eq-true-iff (eqb (ruleBehind posted n m before a .code) 0) (inTurnBehind posted n m (before ++ a ∷ []) ys) .0 t in
-    ap (λ (b : List Action). ruleBehind posted n m b a .code) (append-nil before) ∙ eqb-true _ 0 (p .0)
-turn-at n m before (x ∷ xs) a ys t =
-    let p = and-eq-true-iff (eqb (ruleBehind posted n m before x .code) 0) (inTurnBehind posted n m (before ++ x ∷ []) (xs ++ a ∷ ys)) .0 t in
-    ap (λ (b : List Action). ruleBehind posted n m b a .code) (sym (append-assoc before (x ∷ []) xs)) ∙ turn-at n m (before ++ x ∷ []) xs a ys (p .1)
+turn-at v n m before [] a ys t =
+    let p = and-eq-true-iff (eqb (ruleBehind v n m before a .code) 0) (inTurnBehind v n m (before ++ a ∷ []) ys) .0 t in
+    ap (λ (b : List Action). ruleBehind v n m b a .code) (append-nil before) ∙ eqb-true _ 0 (p .0)
+turn-at v n m before (x ∷ xs) a ys t =
+    let p = and-eq-true-iff (eqb (ruleBehind v n m before x .code) 0) (inTurnBehind v n m (before ++ x ∷ []) (xs ++ a ∷ ys)) .0 t in
+    ap (λ (b : List Action). ruleBehind v n m b a .code) (sym (append-assoc before (x ∷ []) xs)) ∙ turn-at v n m (before ++ x ∷ []) xs a ys (p .1)
 
 records-split : (recs : List (List ℕ)) (xs ys : List Action) → recordsFrom recs (xs ++ ys) ≡ recordsFrom (recordsFrom recs xs) ys
 records-split recs [] ys = refl
 records-split recs (x ∷ xs) ys = records-split (recordsAfter recs x) xs ys
 
-right-id : (recs : List (List ℕ)) (places : ℕ) (id : List ℕ) → actionRule posted recs places (Cancellation id) .code ≡ 0 → rightId id ≡ true
+right-id : (v : Verdict) (recs : List (List ℕ)) (places : ℕ) (id : List ℕ) → actionRule v recs places (Cancellation id) .code ≡ 0 → rightId id ≡ true
 unfolding actionRule
-right-id recs places id z = go (rightId id) z
+right-id v recs places id z = go (rightId id) z
   where
     go : (t : Bool) → cond t (liveRule recs id) (answer 1 1) .code ≡ 0 → t ≡ true
     go true h = refl
     go false h = absurd (omega (arith, h))
 
 -- the used bytes of a batch in which a list stands
-pub used-bytes : (file journal : List ℕ) (c : Counts) (s : State) → Stands posted (batchOf file journal c) s → take (c .used) journal ≡ entriesOf (s .actions)
+pub used-bytes : {v : Verdict} (file journal : List ℕ) (c : Counts) (s : State) → Stands v (batchOf file journal c) s → take (c .used) journal ≡ entriesOf (s .actions)
 unfolding made
 used-bytes file journal c s st = ap (λ (x : Batch). take (x .counts .used) (x .journal)) (st .is) ∙ take-append-seam (entriesOf (s .actions)) _
 
-pub used-long : (file journal : List ℕ) (c : Counts) (s : State) → Stands posted (batchOf file journal c) s → c .used ≡ length (entriesOf (s .actions))
+pub used-long : {v : Verdict} (file journal : List ℕ) (c : Counts) (s : State) → Stands v (batchOf file journal c) s → c .used ≡ length (entriesOf (s .actions))
 unfolding made
 used-long file journal c s st = ap (λ (x : Batch). x .counts .used) (st .is)
 
-pub made-file : (file journal : List ℕ) (c : Counts) (s : State) → Stands posted (batchOf file journal c) s → file ≡ zeroFilled (length file) (linesOf (recordsOf (s .actions)))
+pub made-file : {v : Verdict} (file journal : List ℕ) (c : Counts) (s : State) → Stands v (batchOf file journal c) s → file ≡ zeroFilled (length file) (linesOf (recordsOf (s .actions)))
 unfolding made
 made-file file journal c s st = ap (λ (x : Batch). x .file) (st .is)
 
-module _ (file journal : List ℕ) (held used last end : ℕ) (marks table : List ℕ) (w : Walked file journal held used last marks table) (before : used < end) (within : end ≤ length journal)
-    (c : Counts) (ec : c .used ≡ end) (s : State) (st : Stands posted (batchOf file journal c) s) where
+module _ {known : Known} (file journal : List ℕ) (held used last end : ℕ) (marks table : List ℕ) (w : Walked known file journal held used last marks table) (before : used < end) (within : end ≤ length journal)
+    (c : Counts) (ec : c .used ≡ end) (s : State) (st : Stands (posted known) (batchOf file journal c) s) where
   abbrev all-acts : List Action
   all-acts = s .actions
 
@@ -449,7 +450,7 @@ module _ (file journal : List ℕ) (held used last end : ℕ) (marks table : Lis
       sym (used-bytes file journal c s st) ∙ ap (λ (k : ℕ). take k journal) ends ∙ take-add used (end - used) journal ∙ ap (λ (t : List ℕ). t ++ tail) (w .front)
 
   goes : Goes (w .acts) all-acts tail
-  goes = goes-on (w .acts) all-acts tail (turns-sized posted (length file) (length journal) [] (w .acts) (w .turns)) (turns-sized posted (length file) (length journal) [] all-acts (st .turns)) split-tail
+  goes = goes-on (w .acts) all-acts tail (turns-sized (posted known) (length file) (length journal) [] (w .acts) (w .turns)) (turns-sized (posted known) (length file) (length journal) [] all-acts (st .turns)) split-tail
 
   tail-long : length tail ≡ end - used
   tail-long = length-take-le (end - used) (drop used journal) (rw length-drop (omega (arith, within)))
@@ -458,7 +459,7 @@ module _ (file journal : List ℕ) (held used last end : ℕ) (marks table : Lis
   module _ (a : Action) (ys : List Action) (is : all-acts ≡ w .acts ++ a ∷ ys) (bytes : entryOf a ++ entriesOf ys ≡ tail) where
     entry-there : EntryAt journal end used a
     entry-there =
-        let sizes = turns-sized posted (length file) (length journal) [] all-acts (st .turns) in
+        let sizes = turns-sized (posted known) (length file) (length journal) [] all-acts (st .turns) in
         record {
           size = sized-at (w .acts) a ys (subst (λ (zs : List Action). allSized zs ≡ true) is sizes);
           bytes = ap (take (length (entryOf a))) (sym (take-append-drop (end - used) (drop used journal)) ∙ ap (λ (t : List ℕ). t ++ drop (end - used) (drop used journal)) (sym bytes) ∙ append-assoc (entryOf a) (entriesOf ys) _)
@@ -466,8 +467,8 @@ module _ (file journal : List ℕ) (held used last end : ℕ) (marks table : Lis
           within = omega (arith, tail-long, ap length bytes, length-append (entryOf a) (entriesOf ys), before);
         }
 
-    accepted-there : Accepted posted (recs file journal held used last marks table w) (length file / 401) (length journal - length (entriesOf (w .acts))) a
-    accepted-there = accepted-if posted _ _ _ a (turn-at (length file) (length journal) [] (w .acts) a ys (subst (λ (zs : List Action). inTurn posted (length file) (length journal) zs ≡ true) is (st .turns)))
+    accepted-there : Accepted (posted known) (recs file journal held used last marks table w) (length file / 401) (length journal - length (entriesOf (w .acts))) a
+    accepted-there = accepted-if (posted known) _ _ _ a (turn-at (posted known) (length file) (length journal) [] (w .acts) a ys (subst (λ (zs : List Action). inTurn (posted known) (length file) (length journal) zs ≡ true) is (st .turns)))
 
     abbrev now : List (List ℕ)
     now = recs file journal held used last marks table w
@@ -476,7 +477,7 @@ module _ (file journal : List ℕ) (held used last end : ℕ) (marks table : Lis
     own-there : (rec : List ℕ) → a ≡ Addition rec → keyAt file 0 held ≡ idOf rec
     own-there rec added =
         let many = w .many in
-        let f = turns-fit posted posted-fit (length file) (length journal) all-acts (st .turns) in
+        let f = turns-fit (posted known) (posted-fit known) (length file) (length journal) all-acts (st .turns) in
         let whole : recordsOf all-acts ≡ recordsFrom (now ++ rec ∷ []) ys = ap recordsOf is ∙ records-split [] (w .acts) (a ∷ ys) ∙ ap (λ (x : Action). recordsFrom (recordsAfter now x) ys) added in
         let long : length (now ++ rec ∷ []) ≡ length now + 1 = length-last now rec in
         let there : length now < length (recordsOf all-acts) = omega (arith, long, ap length whole, not-shorter (now ++ rec ∷ []) ys) in
@@ -495,20 +496,20 @@ module _ (file journal : List ℕ) (held used last end : ℕ) (marks table : Lis
         go (nowhere e off) = e
         go (there k e h q) = absurd (none-at (hasId id) now k none (omega (arith, h, w .many)) (same-exactly _ _ .1 (sym (w .ids k h) ∙ q)))
 
-    meets-there : (b : Action) → a ≡ b → actionRule posted now (length file / 401) b .code ≡ 0 → Meets file held marks b
+    meets-there : (b : Action) → a ≡ b → actionRule (posted known) now (length file / 401) b .code ≡ 0 → Meets known file held marks b
     meets-there (Addition rec) same z =
-        let p = adds posted now (length file / 401) rec z in
+        let p = adds (posted known) now (length file / 401) rec z in
         record { room = omega (arith, p .room, w .many); good = p .passes; own = own-there rec same; new = new-there (idOf rec) (p .new) }
     meets-there (Amendment rec) same z =
-        let p = amends posted now (length file / 401) rec z in
+        let p = amends (posted known) now (length file / 401) rec z in
         let l = rules-live file journal held used last marks table w (idOf rec) (p .1) (p .2) in
         (l .0, record { good = p .0; there = l .1 })
     meets-there (Cancellation id) same z =
-        let p = cancels posted now (length file / 401) id z in
+        let p = cancels (posted known) now (length file / 401) id z in
         let l = rules-live file journal held used last marks table w id (p .0) (p .1) in
-        (l .0, record { right = right-id now (length file / 401) id z; there = l .1 })
+        (l .0, record { right = right-id (posted known) now (length file / 401) id z; there = l .1 })
 
-  pub walk-stuck : ((a : Action) → EntryAt journal end used a → Meets file held marks a → ⊥) → ⊥
+  pub walk-stuck : ((a : Action) → EntryAt journal end used a → Meets known file held marks a → ⊥) → ⊥
   walk-stuck none = go (goes .others) (goes .is) (goes .bytes)
     where
       go : (ys : List Action) → all-acts ≡ w .acts ++ ys → entriesOf ys ≡ tail → ⊥

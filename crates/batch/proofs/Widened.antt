@@ -8,8 +8,10 @@ use mathlib.Core.List.{List, [], _∷_, _++_, map}
 use borrow.Author.Tests.{eq-eqb, eqb-true}
 use lib.Dec.{eqb, leb}
 use lib.ListN.{length}
+use Rattle.psc.specs.Table.{Known}
 use Rattle.text.specs.declared.Answer.{Answer}
 use Rattle.text.specs.Answers.{answer, accepted, wrongLength, orElse}
+use Rattle.record.specs.Rules.{toPost}
 use Rattle.record.proofs.BlankAbroad.{still-accepted}
 use Rattle.batch.specs.Actions.{Action, Addition, Amendment, Cancellation, kindOf, sized, entryLength, entriesOf}
 use Rattle.batch.specs.Records.{recordsOf}
@@ -53,7 +55,7 @@ module _ (v w : Verdict) (wide : Widens v w) where
       let p = and-eq-true-iff (eqb (ruleBehind v n m before a .code) 0) (inTurnBehind v n m (before ++ a ∷ []) xs) .0 t in
       rw (eq-eqb _ 0 (entry-wide (recordsOf before) (n / 401) (m - length (entriesOf before)) a (eqb-true _ 0 (p .0)))) (turns-wide n m (before ++ a ∷ []) xs (p .1))
 
-  pub still-acceptable : Fit w → (b : Batch) (xs : List Action) → GoodBuffers b → inTurn v (fileLength b) (journalLength b) xs ≡ true → Acceptable w b xs
+  pub still-acceptable : {known : Known} → Fit known w → (b : Batch) (xs : List Action) → GoodBuffers b → inTurn v (fileLength b) (journalLength b) xs ≡ true → Acceptable w b xs
   still-acceptable fit b xs good t =
       let turns = turns-wide (fileLength b) (journalLength b) [] xs t in
       let p = performed w (fileLength b) (journalLength b) xs turns in
@@ -71,12 +73,12 @@ module _ (v w : Verdict) (wide : Widens v w) where
   pub no-other-237 : (b : Batch) (call : Call) → NothingStands w b call → NothingStands v b call
   no-other-237 b call k = record { lengths = k .lengths; other = k .other; nothing = λ s st. k .nothing s (still-stands b s st) }
 
--- ---- of the rules when a postcode abroad had to be blank: old lists and old journals stay acceptable
-pub posted-wider : Widens blankAbroad posted
-posted-wider rec = still-accepted true rec
+-- ---- of the rules when a postcode abroad had to be blank: by the same postcodes that exist, old lists and old journals stay acceptable
+pub posted-wider : (known : Known) → Widens (blankAbroad known) (posted known)
+posted-wider known rec = still-accepted (toPost known) rec
 
-pub old-lists : (b : Batch) (xs : List Action) → GoodBuffers b → inTurn blankAbroad (fileLength b) (journalLength b) xs ≡ true → Acceptable posted b xs
-old-lists = still-acceptable blankAbroad posted posted-wider posted-fit
+pub old-lists : (known : Known) (b : Batch) (xs : List Action) → GoodBuffers b → inTurn (blankAbroad known) (fileLength b) (journalLength b) xs ≡ true → Acceptable (posted known) b xs
+old-lists known = still-acceptable (blankAbroad known) (posted known) (posted-wider known) (posted-fit known)
 
-pub old-journals : (b : Batch) (s : State) → Stands blankAbroad b s → Stands posted b s
-old-journals = still-stands blankAbroad posted posted-wider
+pub old-journals : (known : Known) (b : Batch) (s : State) → Stands (blankAbroad known) b s → Stands (posted known) b s
+old-journals known = still-stands (blankAbroad known) (posted known) (posted-wider known)

@@ -2,7 +2,7 @@
 -- How a call finds the list out is nobody's business but its proof's.
 -- Assumes nothing.
 use Prim.Native.Nat.{ℕ, _-_, _%_}
-use mathlib.Core.Bool.{Bool, true, cond, _&&_}
+use mathlib.Core.Bool.{Bool, true, false, cond, not, _&&_}
 use mathlib.Core.Path.{_≡_}
 use mathlib.Core.List.{List, [], _∷_, _++_}
 use mathlib.Core.Option.{Option, none, some}
@@ -11,6 +11,7 @@ use lib.Dec.{eqb, leb}
 use Rattle.text.specs.declared.Answer.{Answer}
 use Rattle.text.specs.Answers.{answer, accepted}
 use Rattle.text.specs.Lists.{sameBytes}
+use Rattle.psc.specs.Table.{rightTable, wrongTable, holds}
 use Rattle.posting.specs.declared.Totals.{Totals}
 use Rattle.posting.specs.File.{noTotals}
 use Rattle.posting.specs.Records.{linesOf}
@@ -158,13 +159,38 @@ unfoldable pub after : Verdict → Batch → Call → Batch
 after v b call =
     cond (eqb (answerTo v b call .code) 0) (made (fileLength b) (journalLength b) (nextOf (standsIn v b) call)) (unchanged b call)
 
--- ---- what every call promises: answer, counts, file and journal at exit
-pub record CalledBy (v : Verdict) (b : Batch) (call : Call) (r : Answer) (counts : Counts) (file journal : List ℕ) : Type 0 where
-  pub answers : r ≡ answerTo v b call
-  pub counted : counts ≡ after v b call .counts
-  pub filed : file ≡ after v b call .file
-  pub journaled : journal ≡ after v b call .journal
+-- ---- what every call promises: this answer, and counts, file and journal at exit as this batch has them
+pub record Promised (a : Answer) (left : Batch) (r : Answer) (counts : Counts) (file journal : List ℕ) : Type 0 where
+  pub answers : r ≡ a
+  pub counted : counts ≡ left .counts
+  pub filed : file ≡ left .file
+  pub journaled : journal ≡ left .journal
 
--- under the record's own verdict
-abbrev pub Called : Batch → Call → Answer → Counts → List ℕ → List ℕ → Type 0
-Called = CalledBy posted
+-- under a verdict
+abbrev pub CalledBy : Verdict → Batch → Call → Answer → Counts → List ℕ → List ℕ → Type 0
+CalledBy v b call = Promised (answerTo v b call) (after v b call)
+
+-- ---- under the record's own verdict and a lent table of postcodes, which every call but opening takes
+abbrev pub takesTable : Call → Bool
+takesTable Open = false
+takesTable (Add rec) = true
+takesTable (Amend rec) = true
+takesTable (Cancel id) = true
+takesTable Undo = true
+
+-- 238, straight after 235: the table is wrong
+abbrev pub meetsWrongTable : List ℕ → Batch → Call → Bool
+meetsWrongTable psc b call = takesTable call && (rightLengths (fileLength b) (journalLength b) && not (rightTable psc))
+
+unfoldable pub answerUnder : List ℕ → Batch → Call → Answer
+answerUnder psc b call = cond (meetsWrongTable psc b call) wrongTable (answerTo (posted (holds psc)) b call)
+
+unfoldable pub afterUnder : List ℕ → Batch → Call → Batch
+afterUnder psc b call = cond (meetsWrongTable psc b call) (unchanged b call) (after (posted (holds psc)) b call)
+
+abbrev pub Called : List ℕ → Batch → Call → Answer → Counts → List ℕ → List ℕ → Type 0
+Called psc b call = Promised (answerUnder psc b call) (afterUnder psc b call)
+
+-- an opening takes no table: what it promises holds under any
+abbrev pub Opened : Batch → Answer → Counts → List ℕ → List ℕ → Type 0
+Opened b r counts file journal = (psc : List ℕ) → Called psc b Open r counts file journal

@@ -10,6 +10,7 @@ use Rattle.text.specs.Bytes.{every, run}
 use Rattle.text.specs.Lists.{sameBytes}
 use Rattle.text.specs.Numbers.{numberAfter}
 use Rattle.text.specs.Texts.{bytes}
+use Rattle.psc.specs.Table.{holds}
 use Rattle.ident.specs.Identifier.{shapeOf, weighted, endsRight, rightId}
 use Rattle.ident.specs.Calls.{partsOf}
 use Rattle.layout.specs.Layout.{fieldOf}
@@ -21,7 +22,7 @@ use Rattle.fields.specs.Services.{codesFrom, hasCode, withCode, added, readServ
 use Rattle.fields.specs.Examples.{inField}
 use Rattle.text.specs.Answers.{orElse}
 use Rattle.record.specs.Rules.{askedOf, givenOf, travelOf, table, recordAnswer}
-use Rattle.record.specs.Examples.{laidOut, recordOf, parcel}
+use Rattle.record.specs.Examples.{listed, sentTo, laidOut, recordOf, parcel}
 use Rattle.posting.specs.File.{totals}
 use Rattle.posting.specs.Sums.{kept}
 use Rattle.record.specs.Readings.{cancelledRec}
@@ -51,6 +52,7 @@ claims =
     ∷ (Add first, accepted)
     ∷ (Add first, answer 2 1)
     ∷ (Add (cancelledRec second), answer 210 19)
+    ∷ (Add (sentTo "12345" ""), answer 24 5)
     ∷ (Add second, accepted)
     ∷ (Add third, answer 230 0)
     ∷ (Amend third, answer 232 0)
@@ -78,8 +80,8 @@ unfoldable pub left : List Action
 left = Addition first ∷ Addition second ∷ Amendment renamed ∷ Cancellation (bytes "BO0100010005F") ∷ []
 
 pub record Shown : Type 0 where
-  pub answers : answersByRules posted 802 1600 claimedCalls ≡ claimedAnswers
-  pub stands : standingByRules posted 802 1600 claimedCalls ≡ state left
+  pub answers : answersByRules (posted (holds listed)) 802 1600 claimedCalls ≡ claimedAnswers
+  pub stands : standingByRules (posted (holds listed)) 802 1600 claimedCalls ≡ state left
   pub records : recordsOf left ≡ renamed ∷ cancelledRec second ∷ []
   -- one live, one cancelled, the amounts of the live one; two records, and three entries of 403 bytes and one of 17
   pub counts : made 802 1600 (state left) .counts ≡ countsOf (totals 1 1 1000 2000) 2 1226
@@ -87,5 +89,5 @@ pub record Shown : Type 0 where
   pub read : actionsIn (entriesOf left) ≡ some left
 
 pub shown : Shown
-unfolding bytes inField laidOut recordOf parcel first renamed second third claims left every run numberAfter sameBytes shapeOf weighted endsRight rightId partsOf fieldOf framed daysIn readDate readTime filled contains isHost isMail isMoney codesFrom hasCode withCode added readServices askedOf givenOf travelOf table recordAnswer kept orElse anyRecord actionRule entryRule made rules firstEntry entriesIn Option·elim
+unfolding holds bytes inField laidOut recordOf parcel sentTo first renamed second third claims left every run numberAfter sameBytes shapeOf weighted endsRight rightId partsOf fieldOf framed daysIn readDate readTime filled contains isHost isMail isMoney codesFrom hasCode withCode added readServices askedOf givenOf travelOf table recordAnswer kept orElse anyRecord actionRule entryRule made rules firstEntry entriesIn Option·elim
 shown = record { answers = refl; stands = refl; records = refl; counts = refl; read = refl }

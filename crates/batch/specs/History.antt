@@ -9,6 +9,7 @@ use lib.ListN.{length, take, drop}
 use lib.Dec.{eqb}
 use Rattle.text.specs.declared.Answer.{Answer}
 use Rattle.text.specs.Answers.{answer, accepted}
+use Rattle.psc.specs.Table.{rightTable, Known}
 use Rattle.ident.specs.Identifier.{rightId}
 use Rattle.posting.specs.File.{lineOf, idAt, fileAnswer, passed}
 use Rattle.posting.specs.Records.{linesOf}
@@ -65,6 +66,12 @@ pub record NothingStands (v : Verdict) (b : Batch) (call : Call) : Type 0 where
   pub lengths : GoodBuffers b
   pub other : call ≡ Open → ⊥
   pub nothing : (s : State) → Stands v b s → ⊥
+
+-- 238, all but opening: the lengths are right, and the lent table is wrong
+pub record WrongTable (psc : List ℕ) (b : Batch) (call : Call) : Type 0 where
+  pub lengths : GoodBuffers b
+  pub other : call ≡ Open → ⊥
+  pub wrong : rightTable psc ≡ false
 
 -- the codes behind 237: a state stands, and of it this holds
 pub record SomeStands (v : Verdict) (b : Batch) (Meets : State → Type 0) : Type 0 where
@@ -172,8 +179,8 @@ pub record AmendsOnePlace (b : Batch) (rec : List ℕ) (file : List ℕ) : Type 
   pub line : take 401 (drop (writes .place * 401) file) ≡ lineOf rec
 
 -- ---- the file of a batch: its records, each with its line end, then zeros; without the zeros the file check accepts it, with the same four totals
-pub record GoodFileOf (b : Batch) (records : List (List ℕ)) : Type 0 where
+pub record GoodFileOf (known : Known) (b : Batch) (records : List (List ℕ)) : Type 0 where
   pub many : length records ≡ b .counts .held
   pub bytes : b .file ≡ zeroFilled (fileLength b) (linesOf records)
   pub cut : take (b .counts .held * 401) (b .file) ≡ linesOf records
-  pub passes : fileAnswer (linesOf records) ≡ passed (b .counts .totals)
+  pub passes : fileAnswer known (linesOf records) ≡ passed (b .counts .totals)

@@ -9,9 +9,10 @@ use lib.Dec.{eqb, leb}
 use Rattle.text.specs.declared.Answer.{Answer}
 use Rattle.text.specs.Answers.{answer, accepted, orElse}
 use Rattle.text.specs.Lists.{sameBytes, overlay}
+use Rattle.psc.specs.Table.{Known}
 use Rattle.ident.specs.Identifier.{rightId}
 use Rattle.layout.specs.Layout.{fieldOf}
-use Rattle.record.specs.Rules.{recordAnswer}
+use Rattle.record.specs.Rules.{toPost, recordAnswer}
 use Rattle.posting.specs.declared.Totals.{Totals}
 use Rattle.posting.specs.File.{lineOf, idAt, totals}
 
@@ -41,13 +42,13 @@ abbrev pub liveAnswer : List ℕ → ℕ → List ℕ → Answer
 liveAnswer file held id =
     cond (present file id held) (cond (isCancelledAt file (placeOf file id held)) (answer 233 0) accepted) (answer 232 0)
 
-unfoldable pub addAnswer : List ℕ → ℕ → List ℕ → Answer
-addAnswer file held rec =
-    orElse (recordAnswer true rec)
+unfoldable pub addAnswer : Known → List ℕ → ℕ → List ℕ → Answer
+addAnswer known file held rec =
+    orElse (recordAnswer (toPost known) rec)
     (cond (present file (idOf rec) held) (answer 2 1) (cond (leb (held * 401 + 401) (length file)) accepted (answer 230 0)))
 
-unfoldable pub amendAnswer : List ℕ → ℕ → List ℕ → Answer
-amendAnswer file held rec = orElse (recordAnswer true rec) (liveAnswer file held (idOf rec))
+unfoldable pub amendAnswer : Known → List ℕ → ℕ → List ℕ → Answer
+amendAnswer known file held rec = orElse (recordAnswer (toPost known) rec) (liveAnswer file held (idOf rec))
 
 unfoldable pub cancelAnswer : List ℕ → ℕ → List ℕ → Answer
 cancelAnswer file held id = cond (rightId id) (liveAnswer file held id) (answer 1 1)
@@ -61,9 +62,9 @@ abbrev pub withCancelled : List ℕ → ℕ → List ℕ
 withCancelled file k = set (set file (k * 401 + 340) 48) (k * 401 + 341) 32
 
 -- ---- kinds of entries: 1 addition, 2 cancellation, 3 amendment; no other is ever asked about
-unfoldable pub actionAnswer : List ℕ → ℕ → ℕ → List ℕ → Answer
-actionAnswer file held kind body =
-    cond (eqb kind 1) (addAnswer file held body) (cond (eqb kind 3) (amendAnswer file held body) (cancelAnswer file held body))
+unfoldable pub actionAnswer : Known → List ℕ → ℕ → ℕ → List ℕ → Answer
+actionAnswer known file held kind body =
+    cond (eqb kind 1) (addAnswer known file held body) (cond (eqb kind 3) (amendAnswer known file held body) (cancelAnswer file held body))
 
 unfoldable pub actionFile : List ℕ → ℕ → ℕ → List ℕ → List ℕ
 actionFile file held kind body =

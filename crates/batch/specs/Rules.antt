@@ -9,10 +9,11 @@ use lib.ListN.{length}
 use lib.Dec.{eqb, ltb, leb}
 use Rattle.text.specs.declared.Answer.{Answer}
 use Rattle.text.specs.Answers.{answer, accepted, orElse, wrongLength}
+use Rattle.psc.specs.Table.{Known}
 use Rattle.ident.specs.Identifier.{rightId}
 use Rattle.layout.specs.Layout.{fieldOf}
 use Rattle.record.specs.Codes.{lacks}
-use Rattle.record.specs.Rules.{recordAnswer}
+use Rattle.record.specs.Rules.{inFile, toPost, recordAnswer}
 use Rattle.batch.specs.Actions.{Action, Addition, Amendment, Cancellation, kindOf, sized, entryLength, entriesOf}
 use Rattle.batch.specs.Records.{idOf, hasId, isCancelledRec, recordsOf, some}
 
@@ -20,20 +21,20 @@ use Rattle.batch.specs.Records.{idOf, hasId, isCancelledRec, recordsOf, 
 abbrev pub Verdict : Type 0
 Verdict = List ℕ → Answer
 
--- the one of the record's table
-abbrev pub posted : Verdict
-posted rec = recordAnswer true rec
+-- the one of the record's table, by the postcodes that exist
+abbrev pub posted : Known → Verdict
+posted known rec = recordAnswer (toPost known) rec
 
 -- the codes of the batch's own rules
 abbrev pub batchCodes : List ℕ
-batchCodes = 235 ∷ 237 ∷ 236 ∷ 2 ∷ 232 ∷ 233 ∷ 230 ∷ 231 ∷ 234 ∷ []
+batchCodes = 235 ∷ 238 ∷ 237 ∷ 236 ∷ 2 ∷ 232 ∷ 233 ∷ 230 ∷ 231 ∷ 234 ∷ []
 
--- what proofs ask of a verdict: a record that it accepts has 399 bytes and a blank status, and may stand in a file; and of 399 bytes it never gives a code of
--- the batch's own
-pub record Fit (v : Verdict) : Type 0 where
+-- what proofs ask of a verdict: a record that it accepts has 399 bytes and a blank status, and may stand in a file by the postcodes that exist; and of 399
+-- bytes it never gives a code of the batch's own
+pub record Fit (known : Known) (v : Verdict) : Type 0 where
   pub long : (rec : List ℕ) → v rec .code ≡ 0 → length rec ≡ 399
   pub blank : (rec : List ℕ) → v rec .code ≡ 0 → fieldOf rec 19 ≡ 32 ∷ 32 ∷ []
-  pub passes : (rec : List ℕ) → v rec .code ≡ 0 → recordAnswer false rec .code ≡ 0
+  pub passes : (rec : List ℕ) → v rec .code ≡ 0 → recordAnswer (inFile known) rec .code ≡ 0
   pub others : (rec : List ℕ) → length rec ≡ 399 → lacks (v rec .code) batchCodes ≡ true
 
 -- ---- over the records that stand

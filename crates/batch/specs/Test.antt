@@ -6,6 +6,7 @@ use mathlib.Core.Path.{_≡_}
 use mathlib.Core.List.{List, []}
 use lib.ListN.{length, getD, set, take, drop}
 use lib.Dec.{eqb}
+use Rattle.psc.specs.Table.{Known}
 use Rattle.ident.specs.Identifier.{rightId}
 use Rattle.index.specs.Index.{keyAt, seek}
 use Rattle.index.specs.Laws.{Indexed}
@@ -50,35 +51,35 @@ abbrev pub liveIn : List ℕ → ℕ → List ℕ → List ℕ → Place
 liveIn file held marks id = liveFrom marks (seek file 0 id held)
 
 -- ---- an addition passes exactly so, and is then noted and marked
-pub record Adds (file : List ℕ) (held : ℕ) (rec : List ℕ) : Type 0 where
+pub record Adds (known : Known) (file : List ℕ) (held : ℕ) (rec : List ℕ) : Type 0 where
   pub room : held * 401 + 401 ≤ length file
-  pub good : posted rec .code ≡ 0
+  pub good : posted known rec .code ≡ 0
   pub own : keyAt file 0 held ≡ idOf rec
   pub new : seek file 0 (idOf rec) held ≡ 0
 
-pub record AddedNow (file : List ℕ) (held used : ℕ) (rec marks table marks′ table′ : List ℕ) : Type 0 where
-  pub passes : Adds file held rec
+pub record AddedNow (known : Known) (file : List ℕ) (held used : ℕ) (rec marks table marks′ table′ : List ℕ) : Type 0 where
+  pub passes : Adds known file held rec
   pub nowMarks : marks′ ≡ set marks held (used * 2)
   pub noted : Indexed file 0 (held + 1) table′
 
-pub record Added (file : List ℕ) (held used : ℕ) (rec marks table : List ℕ) (r : Bool) (marks′ table′ : List ℕ) : Type 0 where
-  pub if-so : r ≡ true → AddedNow file held used rec marks table marks′ table′
-  pub if-not : r ≡ false → Adds file held rec → ⊥
+pub record Added (known : Known) (file : List ℕ) (held used : ℕ) (rec marks table : List ℕ) (r : Bool) (marks′ table′ : List ℕ) : Type 0 where
+  pub if-so : r ≡ true → AddedNow known file held used rec marks table marks′ table′
+  pub if-not : r ≡ false → Adds known file held rec → ⊥
   pub long : length table′ ≡ length table
 
 -- ---- an amendment, and a cancellation, of the live consignment at k
-pub record Amends (file : List ℕ) (held : ℕ) (rec marks : List ℕ) (k : ℕ) : Type 0 where
-  pub good : posted rec .code ≡ 0
+pub record Amends (known : Known) (file : List ℕ) (held : ℕ) (rec marks : List ℕ) (k : ℕ) : Type 0 where
+  pub good : posted known rec .code ≡ 0
   pub there : liveIn file held marks (idOf rec) ≡ At k
 
-pub record AmendedNow (file : List ℕ) (held used : ℕ) (rec marks marks′ : List ℕ) : Type 0 where
+pub record AmendedNow (known : Known) (file : List ℕ) (held used : ℕ) (rec marks marks′ : List ℕ) : Type 0 where
   pub place : ℕ
-  pub passes : Amends file held rec marks place
+  pub passes : Amends known file held rec marks place
   pub nowMarks : marks′ ≡ set marks place (used * 2)
 
-pub record Amended (file : List ℕ) (held used : ℕ) (rec marks : List ℕ) (r : Bool) (marks′ : List ℕ) : Type 0 where
-  pub if-so : r ≡ true → AmendedNow file held used rec marks marks′
-  pub if-not : r ≡ false → (k : ℕ) → Amends file held rec marks k → ⊥
+pub record Amended (known : Known) (file : List ℕ) (held used : ℕ) (rec marks : List ℕ) (r : Bool) (marks′ : List ℕ) : Type 0 where
+  pub if-so : r ≡ true → AmendedNow known file held used rec marks marks′
+  pub if-not : r ≡ false → (k : ℕ) → Amends known file held rec marks k → ⊥
 
 pub record Cancels (file : List ℕ) (held : ℕ) (id marks : List ℕ) (k : ℕ) : Type 0 where
   pub right : rightId id ≡ true
@@ -94,33 +95,33 @@ pub record Cancelled (file : List ℕ) (held : ℕ) (id marks : List ℕ) (r : B
   pub if-not : r ≡ false → (k : ℕ) → Cancels file held id marks k → ⊥
 
 -- ---- an action at the entry that starts at `used`: what it meets, and what is marked and noted then
-abbrev pub Meets : List ℕ → ℕ → List ℕ → Action → Type 0
-Meets file held marks (Addition rec) = Adds file held rec
-Meets file held marks (Amendment rec) = (k : ℕ) × Amends file held rec marks k
-Meets file held marks (Cancellation id) = (k : ℕ) × Cancels file held id marks k
+abbrev pub Meets : Known → List ℕ → ℕ → List ℕ → Action → Type 0
+Meets known file held marks (Addition rec) = Adds known file held rec
+Meets known file held marks (Amendment rec) = (k : ℕ) × Amends known file held rec marks k
+Meets known file held marks (Cancellation id) = (k : ℕ) × Cancels file held id marks k
 
-abbrev pub marksAfter : (file : List ℕ) (held used : ℕ) (marks : List ℕ) (a : Action) → Meets file held marks a → List ℕ
-marksAfter file held used marks (Addition rec) p = set marks held (used * 2)
-marksAfter file held used marks (Amendment rec) p = set marks (p .0) (used * 2)
-marksAfter file held used marks (Cancellation id) p = set marks (p .0) (getD marks (p .0) 0 + 1)
+abbrev pub marksAfter : (known : Known) (file : List ℕ) (held used : ℕ) (marks : List ℕ) (a : Action) → Meets known file held marks a → List ℕ
+marksAfter known file held used marks (Addition rec) p = set marks held (used * 2)
+marksAfter known file held used marks (Amendment rec) p = set marks (p .0) (used * 2)
+marksAfter known file held used marks (Cancellation id) p = set marks (p .0) (getD marks (p .0) 0 + 1)
 
 abbrev pub heldAfter : ℕ → Action → ℕ
 heldAfter held (Addition rec) = held + 1
 heldAfter held (Amendment rec) = held
 heldAfter held (Cancellation id) = held
 
-pub record Taken (file : List ℕ) (held used : ℕ) (marks : List ℕ) (a : Action) (marks′ table′ : List ℕ) : Type 0 where
-  pub meets : Meets file held marks a
-  pub left : marks′ ≡ marksAfter file held used marks a meets
+pub record Taken (known : Known) (file : List ℕ) (held used : ℕ) (marks : List ℕ) (a : Action) (marks′ table′ : List ℕ) : Type 0 where
+  pub meets : Meets known file held marks a
+  pub left : marks′ ≡ marksAfter known file held used marks a meets
   pub noted : Indexed file 0 (heldAfter held a) table′
 
-pub record Judged (file : List ℕ) (held used : ℕ) (marks : List ℕ) (a : Action) (r : Bool) (marks′ table′ : List ℕ) : Type 0 where
-  pub if-so : r ≡ true → Taken file held used marks a marks′ table′
-  pub if-not : r ≡ false → Meets file held marks a → ⊥
+pub record Judged (known : Known) (file : List ℕ) (held used : ℕ) (marks : List ℕ) (a : Action) (r : Bool) (marks′ table′ : List ℕ) : Type 0 where
+  pub if-so : r ≡ true → Taken known file held used marks a marks′ table′
+  pub if-not : r ≡ false → Meets known file held marks a → ⊥
 
 -- of the action with this number and this body
-pub record MarkedEntry (file : List ℕ) (held used number : ℕ) (body marks table : List ℕ) (r : Bool) (marks′ table′ : List ℕ) : Type 0 where
-  pub judges : (a : Action) → numberOf a ≡ number → bodyOf a ≡ body → Judged file held used marks a r marks′ table′
+pub record MarkedEntry (known : Known) (file : List ℕ) (held used number : ℕ) (body marks table : List ℕ) (r : Bool) (marks′ table′ : List ℕ) : Type 0 where
+  pub judges : (a : Action) → numberOf a ≡ number → bodyOf a ≡ body → Judged known file held used marks a r marks′ table′
   pub long : length table′ ≡ length table
 
 -- ---- one step of the walk through the journal
@@ -130,45 +131,45 @@ pub record EntryAt (journal : List ℕ) (end used : ℕ) (a : Action) : Type 0 w
   pub bytes : take (length (entryOf a)) (drop used journal) ≡ entryOf a
   pub within : used + length (entryOf a) ≤ end
 
-pub record StepTaken (file journal : List ℕ) (end held used : ℕ) (marks : List ℕ) (r : Reached) (marks′ table′ : List ℕ) : Type 0 where
+pub record StepTaken (known : Known) (file journal : List ℕ) (end held used : ℕ) (marks : List ℕ) (r : Reached) (marks′ table′ : List ℕ) : Type 0 where
   pub action : Action
   pub entry : EntryAt journal end used action
-  pub taken : Taken file held used marks action marks′ table′
+  pub taken : Taken known file held used marks action marks′ table′
   pub holds : r .held ≡ heldAfter held action
   pub moves : r .used ≡ used + length (entryOf action)
   pub from : r .last ≡ used
 
-pub record Stepped (file journal : List ℕ) (end held used : ℕ) (marks table : List ℕ) (r : Reached) (marks′ table′ : List ℕ) : Type 0 where
-  pub if-so : r .good ≡ true → StepTaken file journal end held used marks r marks′ table′
-  pub if-not : r .good ≡ false → (a : Action) → EntryAt journal end used a → Meets file held marks a → ⊥
+pub record Stepped (known : Known) (file journal : List ℕ) (end held used : ℕ) (marks table : List ℕ) (r : Reached) (marks′ table′ : List ℕ) : Type 0 where
+  pub if-so : r .good ≡ true → StepTaken known file journal end held used marks r marks′ table′
+  pub if-not : r .good ≡ false → (a : Action) → EntryAt journal end used a → Meets known file held marks a → ⊥
   pub long : length table′ ≡ length table
 
 pub record Stepping (file journal : List ℕ) (end held used : ℕ) (marks table : List ℕ) : Type 0 where
-  pub known : Noted file held marks table
+  pub marking : Noted file held marks table
   pub before : used ≤ end
   pub within : end ≤ length journal
   pub bounded : length journal ≤ 1048576
 
 -- ---- the walk so far: the entries up to `used` are those of actions that are acceptable in their turn, and the marks name their records
-pub record Walked (file journal : List ℕ) (held used last : ℕ) (marks table : List ℕ) : Type 0 where
+pub record Walked (known : Known) (file journal : List ℕ) (held used last : ℕ) (marks table : List ℕ) : Type 0 where
   pub acts : List Action
   pub front : take used journal ≡ entriesOf acts
-  pub turns : inTurn posted (length file) (length journal) acts ≡ true
+  pub turns : inTurn (posted known) (length file) (length journal) acts ≡ true
   pub many : length (recordsOf acts) ≡ held
   pub named : (i : ℕ) → i < held → getD (recordsOf acts) i [] ≡ markedRecord journal (getD marks i 0)
   pub struck : (i : ℕ) → i < held → isCancelledRec (getD (recordsOf acts) i []) ≡ odd (getD marks i 0)
   pub ids : (i : ℕ) → i < held → keyAt file 0 i ≡ idOf (getD (recordsOf acts) i [])
   pub latest : last ≡ length (entriesOf (withoutLatest acts))
-  pub known : Noted file held marks table
+  pub marking : Noted file held marks table
 
 -- the whole walk: up to `end`, or nothing stands in a batch with this file and journal and so many bytes used
-pub record WalkedTo (file journal : List ℕ) (end : ℕ) (table : List ℕ) (r : Reached) (marks′ table′ : List ℕ) : Type 0 where
-  pub if-so : r .good ≡ true → Walked file journal (r .held) end (r .last) marks′ table′
-  pub if-not : r .good ≡ false → (c : Counts) → c .used ≡ end → (s : State) → Stands posted (batchOf file journal c) s → ⊥
+pub record WalkedTo (known : Known) (file journal : List ℕ) (end : ℕ) (table : List ℕ) (r : Reached) (marks′ table′ : List ℕ) : Type 0 where
+  pub if-so : r .good ≡ true → Walked known file journal (r .held) end (r .last) marks′ table′
+  pub if-not : r .good ≡ false → (c : Counts) → c .used ≡ end → (s : State) → Stands (posted known) (batchOf file journal c) s → ⊥
 
 -- nothing is noted or marked yet
 pub record Fresh (file journal : List ℕ) (end : ℕ) (marks table : List ℕ) : Type 0 where
-  pub known : Noted file 0 marks table
+  pub marking : Noted file 0 marks table
   pub within : end ≤ length journal
   pub bounded : length journal ≤ 1048576
 
@@ -192,16 +193,16 @@ pub record LinesSame (file journal : List ℕ) (held : ℕ) (marks : List ℕ) (
   pub if-not : r ≡ false → ((i : ℕ) → i < held → LineAt file journal marks i) → ⊥
 
 -- ---- the test: what stands in a batch, and where its latest entry starts
-pub record Found (b : Batch) (last : ℕ) : Type 0 where
+pub record Found (known : Known) (b : Batch) (last : ℕ) : Type 0 where
   pub what : State
-  pub stands : Stands posted b what
+  pub stands : Stands (posted known) b what
   pub latest : last ≡ length (entriesOf (withoutLatest (what .actions)))
 
-pub record Tested (b : Batch) (r : Finding) : Type 0 where
-  pub if-so : r .stands ≡ true → Found b (r .last)
-  pub if-not : r .stands ≡ false → (s : State) → Stands posted b s → ⊥
+pub record Tested (known : Known) (b : Batch) (r : Finding) : Type 0 where
+  pub if-so : r .stands ≡ true → Found known b (r .last)
+  pub if-not : r .stands ≡ false → (s : State) → Stands (posted known) b s → ⊥
 
 -- buffers of the right lengths, and nothing marked or noted yet
 pub record ToTest (file journal marks table : List ℕ) : Type 0 where
   pub lengths : rightLengths (length file) (length journal) ≡ true
-  pub known : Noted file 0 marks table
+  pub marking : Noted file 0 marks table

@@ -7,6 +7,7 @@ use mathlib.Core.Path.{_≡_}
 use mathlib.Core.List.{List, [], _∷_}
 use lib.ListN.{length, set, take, drop}
 use lib.Dec.{eqb}
+use Rattle.psc.specs.Table.{Known}
 use Rattle.text.specs.Lists.{sameBytes, overlay}
 use Rattle.posting.specs.declared.Totals.{Totals}
 use Rattle.posting.specs.Bounds.{Small}
@@ -102,9 +103,10 @@ pub record AmendmentOff (file : List ℕ) (c : Counts) (last : ℕ) (old : List 
 
 -- ---- the latest action of a batch, whose entry starts at `last`, taken off
 pub record Undoable (file journal : List ℕ) (c : Counts) (last : ℕ) : Type 0 where
-  pub found : Found (batchOf file journal c) last
+  pub known : Known
+  pub found : Found known (batchOf file journal c) last
   pub some : c .used ≡ 0 → ⊥
 
 pub record TakenBack (file journal : List ℕ) (c : Counts) (last : ℕ) (r : Counts) (file′ : List ℕ) : Type 0 where
-  pub filed : (s : State) → Stands posted (batchOf file journal c) s → file′ ≡ made (length file) (length journal) (state (withoutLatest (s .actions))) .file
-  pub counted : (s : State) → Stands posted (batchOf file journal c) s → r ≡ made (length file) (length journal) (state (withoutLatest (s .actions))) .counts
+  pub filed : (known : Known) (s : State) → Stands (posted known) (batchOf file journal c) s → file′ ≡ made (length file) (length journal) (state (withoutLatest (s .actions))) .file
+  pub counted : (known : Known) (s : State) → Stands (posted known) (batchOf file journal c) s → r ≡ made (length file) (length journal) (state (withoutLatest (s .actions))) .counts

@@ -7,10 +7,12 @@ use mathlib.Core.Path.{_≡_}
 use mathlib.Core.List.{List, _∷_, map}
 use Rattle.text.specs.declared.Answer.{Answer}
 use Rattle.text.specs.Answers.{accepted}
+use Rattle.psc.specs.Table.{Known}
+use Rattle.record.specs.Rules.{toPost}
 use Rattle.record.specs.BlankAbroad.{answerBlankAbroad}
 use Rattle.batch.specs.Actions.{Action}
 use Rattle.batch.specs.Rules.{Verdict, inTurn}
-use Rattle.batch.specs.Batch.{Batch, Open, state, made, fileLength, journalLength}
+use Rattle.batch.specs.Batch.{Batch, Open, state, made, fileLength, journalLength, CalledBy}
 use Rattle.batch.specs.History.{callOf}
 use Rattle.batch.specs.Demand.{RunOfCalls}
 
@@ -22,10 +24,10 @@ Widens v w = (rec : List ℕ) → v rec .code ≡ 0 → w rec .code ≡ 0
 -- accepted, and they leave what the list makes, in which there is no verdict
 pub record Acceptable (w : Verdict) (b : Batch) (xs : List Action) : Type 0 where
   pub turns : inTurn w (fileLength b) (journalLength b) xs ≡ true
-  pub answers : (r : Answer) (answers : List Answer) (e : Batch) → RunOfCalls w b (Open ∷ map callOf xs) (r ∷ answers) e → answers ≡ map (λ a. accepted) xs
-  pub leaves : (r : Answer) (answers : List Answer) (e : Batch) → RunOfCalls w b (Open ∷ map callOf xs) (r ∷ answers) e
+  pub answers : (r : Answer) (answers : List Answer) (e : Batch) → RunOfCalls (CalledBy w) b (Open ∷ map callOf xs) (r ∷ answers) e → answers ≡ map (λ a. accepted) xs
+  pub leaves : (r : Answer) (answers : List Answer) (e : Batch) → RunOfCalls (CalledBy w) b (Open ∷ map callOf xs) (r ∷ answers) e
       → e ≡ made (fileLength b) (journalLength b) (state xs)
 
 -- ---- the record's verdict when a postcode abroad had to be blank
-abbrev pub blankAbroad : Verdict
-blankAbroad rec = answerBlankAbroad true rec
+abbrev pub blankAbroad : Known → Verdict
+blankAbroad known rec = answerBlankAbroad (toPost known) rec

@@ -2,7 +2,7 @@
 -- No promise of a public call speaks of it.
 -- Assumes nothing.
 use Prim.Native.Nat.{ℕ, _+_, _*_, _≤_, _<_}
-use mathlib.Core.Bool.{cond}
+use mathlib.Core.Bool.{true, cond}
 use mathlib.Core.Path.{_≡_}
 use mathlib.Core.List.{List, []}
 use lib.ListN.{length}
@@ -10,6 +10,8 @@ use lib.Dec.{eqb, leb}
 use Rattle.text.specs.declared.Answer.{Answer}
 use Rattle.text.specs.Answers.{answer, accepted, orElse, wrongLength}
 use Rattle.text.specs.Lists.{overlay}
+use Rattle.psc.specs.Table.{rightTable, Known}
+use Rattle.psc.specs.Search.{found}
 use Rattle.posting.specs.declared.Totals.{Totals}
 use Rattle.posting.specs.Bounds.{Small}
 use Rattle.posting.specs.File.{recordAt, totalsOver}
@@ -19,16 +21,15 @@ use Rattle.batch.specs.declared.Gate.{Gate}
 use Rattle.batch.specs.declared.Outcome.{Outcome}
 use Rattle.batch.specs.Places.{placeOf, idOf, actionAnswer, actionFile, actionHeld, oneLiveMore, oneCancelled, amountsReplaced}
 use Rattle.batch.specs.Entries.{bodyLength, entryLength, entry}
-use Rattle.batch.specs.Rules.{posted}
-use Rattle.batch.specs.Batch.{Batch, batchOf, countsOf, Call, Open, answerTo}
+use Rattle.batch.specs.Batch.{Batch, batchOf, countsOf, Call, Open, answerUnder}
 use Rattle.batch.specs.Test.{Found}
 
 -- ---- the answer to an action, and what an accepted one leaves
 -- an action of this kind: 236, then its own refusals, then 231
-unfoldable pub entryAnswer : Batch → ℕ → List ℕ → Answer
-entryAnswer b kind body =
+unfoldable pub entryAnswer : Known → Batch → ℕ → List ℕ → Answer
+entryAnswer known b kind body =
     cond (eqb (length body) (bodyLength kind))
-    (orElse (actionAnswer (b .file) (b .counts .held) kind body)
+    (orElse (actionAnswer known (b .file) (b .counts .held) kind body)
     (cond (leb (b .counts .used + entryLength kind) (length (b .journal))) accepted (answer 231 0)))
     wrongLength
 
@@ -46,18 +47,24 @@ entered b kind body =
     (overlay (b .journal) (b .counts .used) (entry kind body))
     (countsOf (actionTotals b kind body) (actionHeld (b .counts .held) kind) (b .counts .used + entryLength kind))
 
--- ---- what every call but opening meets first: 235 or 237, or what stands and where its latest entry starts
-pub record Guarded (b : Batch) (g : Gate) : Type 0 where
-  pub if-so : g .answer .code ≡ 0 → Found b (g .last)
-  pub if-not : (g .answer .code ≡ 0 → ⊥) → (call : Call) → (call ≡ Open → ⊥) → answerTo posted b call ≡ g .answer
+-- ---- what every call but opening meets first, under a lent table: 235, 238 or 237; or the table is right, and what stands by looking up in it, and where
+-- the latest entry starts
+pub record Passed (psc : List ℕ) (b : Batch) (last : ℕ) : Type 0 where
+  pub right : rightTable psc ≡ true
+  pub found : Found (found psc) b last
+
+pub record Guarded (psc : List ℕ) (b : Batch) (g : Gate) : Type 0 where
+  pub if-so : g .answer .code ≡ 0 → Passed psc b (g .last)
+  pub if-not : (g .answer .code ≡ 0 → ⊥) → (call : Call) → (call ≡ Open → ⊥) → answerUnder psc b call ≡ g .answer
 
 -- ---- the work of an action
--- an action that is accepted, with a body of its kind's length
+-- an action that is accepted, by whatever postcodes exist, with a body of its kind's length
 pub record Acceptable (file : List ℕ) (held kind : ℕ) (body : List ℕ) : Type 0 where
   pub few : held ≤ 999
   pub fits : held * 401 ≤ length file
   pub sized : length body ≡ bodyLength kind
-  pub accepts : actionAnswer file held kind body .code ≡ 0
+  pub known : Known
+  pub accepts : actionAnswer known file held kind body .code ≡ 0
 
 -- counts that fit buffers of the right lengths
 pub record Ready (file journal : List ℕ) (c : Counts) : Type 0 where
@@ -79,6 +86,6 @@ pub record Countable (file : List ℕ) (c : Counts) (kind : ℕ) (body : List �
   pub room : c .used + 403 < 2000000
 
 -- what the work of an action leaves
-pub record Worked (file journal : List ℕ) (c : Counts) (kind : ℕ) (body : List ℕ) (r : Outcome) (file′ journal′ : List ℕ) : Type 0 where
-  pub answers : r .answer ≡ entryAnswer (batchOf file journal c) kind body
-  pub leaves : batchOf file′ journal′ (r .counts) ≡ cond (eqb (entryAnswer (batchOf file journal c) kind body .code) 0) (entered (batchOf file journal c) kind body) (batchOf file journal c)
+pub record Worked (known : Known) (file journal : List ℕ) (c : Counts) (kind : ℕ) (body : List ℕ) (r : Outcome) (file′ journal′ : List ℕ) : Type 0 where
+  pub answers : r .answer ≡ entryAnswer known (batchOf file journal c) kind body
+  pub leaves : batchOf file′ journal′ (r .counts) ≡ cond (eqb (entryAnswer known (batchOf file journal c) kind body .code) 0) (entered (batchOf file journal c) kind body) (batchOf file journal c)

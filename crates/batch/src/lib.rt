@@ -2,11 +2,12 @@
 ghost use mathlib.Core.Path.{_≡_};
 ghost use Prim.Native.Nat.{_+_, _-_, _*_, _≤_, _<_};
 ghost use lib.ListN.{length};
+ghost use Rattle.psc.specs.Search.{found};
 ghost use Rattle.posting.specs.Bounds.{Small};
 ghost use Rattle.posting.specs.File.{totalsOver};
 ghost use Rattle.batch.specs.Places.{oneLiveMore, oneCancelled, amountsReplaced};
 ghost use Rattle.batch.specs.Work.{Guarded, Countable, countsAfter, Ready, Worked};
-ghost use Rattle.batch.specs.Batch.{sameTotals, rightLengths, countsOf, noCounts, batchOf, Open, Add, Amend, Cancel, Undo, Called};
+ghost use Rattle.batch.specs.Batch.{sameTotals, rightLengths, countsOf, noCounts, batchOf, Add, Amend, Cancel, Undo, Called, Opened};
 
 mod entries; // the entries of the journal
 mod places; // the places of the file buffer
@@ -21,6 +22,7 @@ use places::act;
 use places::action_answer;
 use places::record_number;
 use posting::Totals;
+use psc::WRONG_TABLE;
 use text::ACCEPTED;
 use text::Answer;
 use text::WRONG_LENGTH;
@@ -58,7 +60,7 @@ pub struct Counts {
     pub used: usize,
 }
 
-// What a call finds before its work: 235 or 237, or 0 and where the latest entry starts.
+// What a call finds before its work: 235, 238 or 237, or 0 and where the latest entry starts.
 pub struct Gate {
     pub answer: Answer,
     pub last: usize,
@@ -112,9 +114,9 @@ fn right_lengths(n: usize, m: usize) -> bool
     (n % 401 == 0) & (401 <= n) & (n <= 400_599) & (403 <= m) & (m <= 1_048_576)
 }
 
-// What every call but opening checks first: 235, then 237.
-fn guard(file: &[u8], journal: &[u8], c: Counts) -> Gate
-    ensures { λ r. ⌜ Guarded (batchOf (now (file .entry)) (now (journal .entry)) c) r ⌝ }
+// What every call but opening checks first: 235, then 238, then 237.
+fn guard(file: &[u8], journal: &[u8], c: Counts, psc: &[u32]) -> Gate
+    ensures { λ r. ⌜ Guarded (now (psc .entry)) (batchOf (now (file .entry)) (now (journal .entry)) c) r ⌝ }
 {
     if !right_lengths(file.len(), journal.len()) {
         return Gate {
@@ -122,7 +124,13 @@ fn guard(file: &[u8], journal: &[u8], c: Counts) -> Gate
             last: 0,
         };
     }
-    let found = test::test(file, journal, c);
+    if !psc::right(psc) {
+        return Gate {
+            answer: WRONG_TABLE,
+            last: 0,
+        };
+    }
+    let found = test::test(file, journal, c, psc);
     if !found.stands {
         return Gate {
             answer: NOTHING_STANDS,
@@ -293,9 +301,16 @@ fn counts_after(file: &[u8], c: Counts, kind: u8, body: &[u8]) -> Counts
 // ---- the calls
 
 // The work of an action on a batch in which something stands: 236, its own refusals, 231, or else file, journal and counts go on.
-fn enter(file: &mut [u8], journal: &mut [u8], c: Counts, kind: u8, body: &[u8]) -> Outcome
+fn enter(
+    file: &mut [u8],
+    journal: &mut [u8],
+    c: Counts,
+    kind: u8,
+    body: &[u8],
+    psc: &[u32],
+) -> Outcome
     requires { ⌜ Ready (now file) (now journal) c ⌝ }
-    ensures { λ r. ⌜ Worked (now (file .entry)) (now (journal .entry)) c kind (now (body .entry)) r (now (file .exit)) (now (journal .exit)) ⌝ }
+    ensures { λ r. ⌜ Worked (found (now (psc .entry))) (now (file .entry)) (now (journal .entry)) c kind (now (body .entry)) r (now (file .exit)) (now (journal .exit)) ⌝ }
 {
     let held = c.held;
     let used = c.used;
@@ -306,7 +321,7 @@ fn enter(file: &mut [u8], journal: &mut [u8], c: Counts, kind: u8, body: &[u8]) 
             counts: c,
         };
     }
-    let answer = action_answer(file, held, kind, body);
+    let answer = action_answer(file, held, kind, body, psc);
     if answer.code != 0 {
         return Outcome { answer, counts: c };
     }
@@ -327,7 +342,7 @@ fn enter(file: &mut [u8], journal: &mut [u8], c: Counts, kind: u8, body: &[u8]) 
 
 // Sets both buffers to zero and gives zero counts.
 pub fn open(file: &mut [u8], journal: &mut [u8]) -> Outcome
-    ensures { λ r. ⌜ Called (batchOf (now (file .entry)) (now (journal .entry)) noCounts) Open (r .answer) (r .counts) (now (file .exit)) (now (journal .exit)) ⌝ }
+    ensures { λ r. ⌜ Opened (batchOf (now (file .entry)) (now (journal .entry)) noCounts) (r .answer) (r .counts) (now (file .exit)) (now (journal .exit)) ⌝ }
 {
     let counts = Counts::none();
     if !right_lengths(file.len(), journal.len()) {
@@ -344,44 +359,44 @@ pub fn open(file: &mut [u8], journal: &mut [u8]) -> Outcome
     }
 }
 
-pub fn add(file: &mut [u8], journal: &mut [u8], c: Counts, rec: &[u8]) -> Outcome
-    ensures { λ r. ⌜ Called (batchOf (now (file .entry)) (now (journal .entry)) c) (Add (now (rec .entry))) (r .answer) (r .counts) (now (file .exit)) (now (journal .exit)) ⌝ }
+pub fn add(file: &mut [u8], journal: &mut [u8], c: Counts, rec: &[u8], psc: &[u32]) -> Outcome
+    ensures { λ r. ⌜ Called (now (psc .entry)) (batchOf (now (file .entry)) (now (journal .entry)) c) (Add (now (rec .entry))) (r .answer) (r .counts) (now (file .exit)) (now (journal .exit)) ⌝ }
 {
-    let gate = guard(file, journal, c);
+    let gate = guard(file, journal, c, psc);
     let answer = gate.answer;
     if answer.code != 0 {
         return Outcome { answer, counts: c };
     }
-    enter(file, journal, c, 1, rec)
+    enter(file, journal, c, 1, rec, psc)
 }
 
-pub fn amend(file: &mut [u8], journal: &mut [u8], c: Counts, rec: &[u8]) -> Outcome
-    ensures { λ r. ⌜ Called (batchOf (now (file .entry)) (now (journal .entry)) c) (Amend (now (rec .entry))) (r .answer) (r .counts) (now (file .exit)) (now (journal .exit)) ⌝ }
+pub fn amend(file: &mut [u8], journal: &mut [u8], c: Counts, rec: &[u8], psc: &[u32]) -> Outcome
+    ensures { λ r. ⌜ Called (now (psc .entry)) (batchOf (now (file .entry)) (now (journal .entry)) c) (Amend (now (rec .entry))) (r .answer) (r .counts) (now (file .exit)) (now (journal .exit)) ⌝ }
 {
-    let gate = guard(file, journal, c);
+    let gate = guard(file, journal, c, psc);
     let answer = gate.answer;
     if answer.code != 0 {
         return Outcome { answer, counts: c };
     }
-    enter(file, journal, c, 3, rec)
+    enter(file, journal, c, 3, rec, psc)
 }
 
-pub fn cancel(file: &mut [u8], journal: &mut [u8], c: Counts, id: &[u8]) -> Outcome
-    ensures { λ r. ⌜ Called (batchOf (now (file .entry)) (now (journal .entry)) c) (Cancel (now (id .entry))) (r .answer) (r .counts) (now (file .exit)) (now (journal .exit)) ⌝ }
+pub fn cancel(file: &mut [u8], journal: &mut [u8], c: Counts, id: &[u8], psc: &[u32]) -> Outcome
+    ensures { λ r. ⌜ Called (now (psc .entry)) (batchOf (now (file .entry)) (now (journal .entry)) c) (Cancel (now (id .entry))) (r .answer) (r .counts) (now (file .exit)) (now (journal .exit)) ⌝ }
 {
-    let gate = guard(file, journal, c);
+    let gate = guard(file, journal, c, psc);
     let answer = gate.answer;
     if answer.code != 0 {
         return Outcome { answer, counts: c };
     }
-    enter(file, journal, c, 2, id)
+    enter(file, journal, c, 2, id, psc)
 }
 
 // Takes the latest entry off the journal and brings back file and counts.
-pub fn undo(file: &mut [u8], journal: &mut [u8], c: Counts) -> Outcome
-    ensures { λ r. ⌜ Called (batchOf (now (file .entry)) (now (journal .entry)) c) Undo (r .answer) (r .counts) (now (file .exit)) (now (journal .exit)) ⌝ }
+pub fn undo(file: &mut [u8], journal: &mut [u8], c: Counts, psc: &[u32]) -> Outcome
+    ensures { λ r. ⌜ Called (now (psc .entry)) (batchOf (now (file .entry)) (now (journal .entry)) c) Undo (r .answer) (r .counts) (now (file .exit)) (now (journal .exit)) ⌝ }
 {
-    let gate = guard(file, journal, c);
+    let gate = guard(file, journal, c, psc);
     let answer = gate.answer;
     if answer.code != 0 {
         return Outcome { answer, counts: c };

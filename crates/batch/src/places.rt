@@ -3,6 +3,7 @@ ghost use mathlib.Core.Path.{_≡_};
 ghost use Prim.Native.Nat.{_+_, _-_, _*_, _≤_, _<_};
 ghost use lib.ListN.{length};
 ghost use Rattle.posting.specs.File.{lineOf};
+ghost use Rattle.psc.specs.Search.{found};
 ghost use Rattle.batch.specs.Places.{recordNumber, liveAnswer, addAnswer, amendAnswer, cancelAnswer, withLine, withCancelled, actionAnswer, actionFile, actionHeld};
 ghost use Rattle.batch.specs.Work.{Acceptable};
 use posting::TWICE;
@@ -65,11 +66,11 @@ fn live_answer(file: &[u8], held: usize, id: &[u8]) -> Answer
 
 // ---- what an action meets; 231 is not judged here
 
-fn add_answer(file: &[u8], held: usize, rec: &[u8]) -> Answer
+fn add_answer(file: &[u8], held: usize, rec: &[u8], psc: &[u32]) -> Answer
     requires { ⌜ (held ≤ 999) × (held * 401 ≤ length (now file)) ⌝ }
-    ensures { λ r. ⌜ r ≡ addAnswer (now (file .entry)) held (now (rec .entry)) ⌝ }
+    ensures { λ r. ⌜ r ≡ addAnswer (found (now (psc .entry))) (now (file .entry)) held (now (rec .entry)) ⌝ }
 {
-    let a = record::check_posting(rec);
+    let a = record::answer(rec, psc, true);
     if a.code != 0 {
         return a;
     }
@@ -84,11 +85,11 @@ fn add_answer(file: &[u8], held: usize, rec: &[u8]) -> Answer
     }
 }
 
-fn amend_answer(file: &[u8], held: usize, rec: &[u8]) -> Answer
+fn amend_answer(file: &[u8], held: usize, rec: &[u8], psc: &[u32]) -> Answer
     requires { ⌜ (held ≤ 999) × (held * 401 ≤ length (now file)) ⌝ }
-    ensures { λ r. ⌜ r ≡ amendAnswer (now (file .entry)) held (now (rec .entry)) ⌝ }
+    ensures { λ r. ⌜ r ≡ amendAnswer (found (now (psc .entry))) (now (file .entry)) held (now (rec .entry)) ⌝ }
 {
-    let a = record::check_posting(rec);
+    let a = record::answer(rec, psc, true);
     if a.code != 0 {
         return a;
     }
@@ -107,15 +108,15 @@ fn cancel_answer(file: &[u8], held: usize, id: &[u8]) -> Answer
 }
 
 // The kinds are 1 for an addition, 3 for an amendment and 2, which is left, for a cancellation.
-pub(crate) fn action_answer(file: &[u8], held: usize, kind: u8, body: &[u8]) -> Answer
+pub(crate) fn action_answer(file: &[u8], held: usize, kind: u8, body: &[u8], psc: &[u32]) -> Answer
     requires { ⌜ (held ≤ 999) × (held * 401 ≤ length (now file)) ⌝ }
-    ensures { λ r. ⌜ r ≡ actionAnswer (now (file .entry)) held kind (now (body .entry)) ⌝ }
+    ensures { λ r. ⌜ r ≡ actionAnswer (found (now (psc .entry))) (now (file .entry)) held kind (now (body .entry)) ⌝ }
 {
     if kind == 1 {
-        return add_answer(file, held, body);
+        return add_answer(file, held, body, psc);
     }
     if kind == 3 {
-        return amend_answer(file, held, body);
+        return amend_answer(file, held, body, psc);
     }
     cancel_answer(file, held, body)
 }

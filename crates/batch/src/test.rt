@@ -6,6 +6,7 @@ ghost use mathlib.Core.Bool.{true, false};
 ghost use Prim.Native.Nat.{_+_, _*_, _/_, _≤_, _<_};
 ghost use lib.ListN.{length};
 ghost use Rattle.posting.specs.File.{lineOf};
+ghost use Rattle.psc.specs.Search.{found};
 ghost use Rattle.batch.specs.Test.{Noted, liveIn, Added, Amended, Cancelled, MarkedEntry, Stepping, Stepped, Fresh, WalkedTo, LineSame, Marked, LinesSame, ToTest, Tested};
 ghost use Rattle.batch.specs.Batch.{batchOf, rightLengths};
 use crate::Counts;
@@ -65,18 +66,19 @@ fn mark_addition(
     held: usize,
     used: usize,
     rec: &[u8],
+    psc: &[u32],
     marks: &mut [u32],
     table: &mut [u16],
 ) -> bool
     requires { ⌜ Noted (now file) held (now marks) (now table) × (used < 2000000) ⌝ }
-    ensures { λ r. ⌜ Added (now (file .entry)) held used (now (rec .entry)) (now (marks .entry)) (now (table .entry)) r (now (marks .exit)) (now (table .exit)) ⌝ }
+    ensures { λ r. ⌜ Added (found (now (psc .entry))) (now (file .entry)) held used (now (rec .entry)) (now (marks .entry)) (now (table .entry)) r (now (marks .exit)) (now (table .exit)) ⌝ }
 {
     let a = held * 401;
     let e = a + 13;
     if file.len() - a < 401 {
         return false;
     }
-    let answer = record::check_posting(rec);
+    let answer = record::answer(rec, psc, true);
     if answer.code != 0 {
         return false;
     }
@@ -97,13 +99,14 @@ fn mark_amendment(
     held: usize,
     used: usize,
     rec: &[u8],
+    psc: &[u32],
     marks: &mut [u32],
     table: &[u16],
 ) -> bool
     requires { ⌜ Noted (now file) held (now marks) (now table) × (used < 2000000) ⌝ }
-    ensures { λ r. ⌜ Amended (now (file .entry)) held used (now (rec .entry)) (now (marks .entry)) r (now (marks .exit)) ⌝ }
+    ensures { λ r. ⌜ Amended (found (now (psc .entry))) (now (file .entry)) held used (now (rec .entry)) (now (marks .entry)) r (now (marks .exit)) ⌝ }
 {
-    let answer = record::check_posting(rec);
+    let answer = record::answer(rec, psc, true);
     if answer.code != 0 {
         return false;
     }
@@ -137,17 +140,18 @@ fn mark_entry(
     used: usize,
     kind: u8,
     body: &[u8],
+    psc: &[u32],
     marks: &mut [u32],
     table: &mut [u16],
 ) -> bool
     requires { ⌜ Noted (now file) held (now marks) (now table) × (used < 2000000) ⌝ }
-    ensures { λ r. ⌜ MarkedEntry (now (file .entry)) held used kind (now (body .entry)) (now (marks .entry)) (now (table .entry)) r (now (marks .exit)) (now (table .exit)) ⌝ }
+    ensures { λ r. ⌜ MarkedEntry (found (now (psc .entry))) (now (file .entry)) held used kind (now (body .entry)) (now (marks .entry)) (now (table .entry)) r (now (marks .exit)) (now (table .exit)) ⌝ }
 {
     if kind == 1 {
-        return mark_addition(file, held, used, body, marks, table);
+        return mark_addition(file, held, used, body, psc, marks, table);
     }
     if kind == 3 {
-        return mark_amendment(file, held, used, body, marks, table);
+        return mark_amendment(file, held, used, body, psc, marks, table);
     }
     mark_cancellation(file, held, body, marks, table)
 }
@@ -159,11 +163,12 @@ fn step(
     end: usize,
     held: usize,
     used: usize,
+    psc: &[u32],
     marks: &mut [u32],
     table: &mut [u16],
 ) -> Reached
     requires { ⌜ Stepping (now file) (now journal) end held used (now marks) (now table) ⌝ }
-    ensures { λ r. ⌜ Stepped (now (file .entry)) (now (journal .entry)) end held used (now (marks .entry)) (now (table .entry)) r (now (marks .exit)) (now (table .exit)) ⌝ }
+    ensures { λ r. ⌜ Stepped (found (now (psc .entry))) (now (file .entry)) (now (journal .entry)) end held used (now (marks .entry)) (now (table .entry)) r (now (marks .exit)) (now (table .exit)) ⌝ }
 {
     let kind = kind_at(journal, end, used);
     if kind == 0 {
@@ -176,7 +181,7 @@ fn step(
     }
     let a = used + 4;
     let e = a + body_length(kind);
-    let good = mark_entry(file, held, used, kind, &journal[a..e], marks, table);
+    let good = mark_entry(file, held, used, kind, &journal[a..e], psc, marks, table);
     Reached {
         good,
         held: held_after(held, kind),
@@ -186,15 +191,22 @@ fn step(
 }
 
 // Walks through the journal's entries up to `end`.
-fn walk(file: &[u8], journal: &[u8], end: usize, marks: &mut [u32], table: &mut [u16]) -> Reached
+fn walk(
+    file: &[u8],
+    journal: &[u8],
+    end: usize,
+    psc: &[u32],
+    marks: &mut [u32],
+    table: &mut [u16],
+) -> Reached
     requires { ⌜ Fresh (now file) (now journal) end (now marks) (now table) ⌝ }
-    ensures { λ r. ⌜ WalkedTo (now (file .entry)) (now (journal .entry)) end (now (table .entry)) r (now (marks .exit)) (now (table .exit)) ⌝ }
+    ensures { λ r. ⌜ WalkedTo (found (now (psc .entry))) (now (file .entry)) (now (journal .entry)) end (now (table .entry)) r (now (marks .exit)) (now (table .exit)) ⌝ }
 {
     let mut held = 0;
     let mut used = 0;
     let mut last = 0;
     while used < end {
-        let w = step(file, journal, end, held, used, marks, table);
+        let w = step(file, journal, end, held, used, psc, marks, table);
         if !w.good {
             return w;
         }
@@ -256,11 +268,12 @@ fn test_with(
     file: &[u8],
     journal: &[u8],
     c: Counts,
+    psc: &[u32],
     marks: &mut [u32],
     table: &mut [u16],
 ) -> Finding
     requires { ⌜ ToTest (now file) (now journal) (now marks) (now table) ⌝ }
-    ensures { λ r. ⌜ Tested (batchOf (now (file .entry)) (now (journal .entry)) c) r ⌝ }
+    ensures { λ r. ⌜ Tested (found (now (psc .entry))) (batchOf (now (file .entry)) (now (journal .entry)) c) r ⌝ }
 {
     let used = c.used;
     let held = c.held;
@@ -269,7 +282,7 @@ fn test_with(
     if m < used {
         return nothing();
     }
-    let w = walk(file, journal, used, marks, table);
+    let w = walk(file, journal, used, psc, marks, table);
     if !w.good {
         return nothing();
     }
@@ -293,23 +306,23 @@ fn test_with(
 }
 
 // What stands in a batch with buffers of the right lengths.
-pub(crate) fn test(file: &[u8], journal: &[u8], c: Counts) -> Finding
+pub(crate) fn test(file: &[u8], journal: &[u8], c: Counts, psc: &[u32]) -> Finding
     requires { ⌜ rightLengths (length (now file)) (length (now journal)) ≡ true ⌝ }
-    ensures { λ r. ⌜ Tested (batchOf (now (file .entry)) (now (journal .entry)) c) r ⌝ }
+    ensures { λ r. ⌜ Tested (found (now (psc .entry))) (batchOf (now (file .entry)) (now (journal .entry)) c) r ⌝ }
 {
     let places = file.len() / 401;
     // Marks and table are cleared at each call, so there are few for a small file; and slots twice as many as places, so that walks are short.
     if places < 64 {
         let mut marks = [0u32; 64];
         let mut table = [0u16; 128];
-        return test_with(file, journal, c, &mut marks[..64], &mut table[..128]);
+        return test_with(file, journal, c, psc, &mut marks[..64], &mut table[..128]);
     }
     if places < 256 {
         let mut marks = [0u32; 256];
         let mut table = [0u16; 512];
-        return test_with(file, journal, c, &mut marks[..256], &mut table[..512]);
+        return test_with(file, journal, c, psc, &mut marks[..256], &mut table[..512]);
     }
     let mut marks = [0u32; 999];
     let mut table = [0u16; 2048];
-    test_with(file, journal, c, &mut marks[..999], &mut table[..2048])
+    test_with(file, journal, c, psc, &mut marks[..999], &mut table[..2048])
 }

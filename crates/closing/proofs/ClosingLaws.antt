@@ -3,26 +3,23 @@
 -- Assumes nothing.
 use Prim.Native.Nat.{ℕ, zero, suc, _+_, _≤_, _<_}
 use mathlib.Core.Path.{_≡_, refl, sym, _∙_}
-use mathlib.Core.Bool.{Bool, true, false, not}
+use mathlib.Core.Bool.{Bool, true, false, cond, not}
 use mathlib.Core.List.{List}
 use mathlib.Core.Logic.{_↔_}
 use native.Mathlib.Omega.{arith}
 use borrow.Author.Tests.{eqb-true, eqb-false, not-true}
 use lib.Dec.{eqb}
-use Rattle.text.specs.declared.Answer.{Answer}
 use Rattle.text.specs.Bytes.{isBlank}
 use Rattle.text.proofs.Booleans.{both}
 use Rattle.layout.specs.Layout.{fieldOf}
 use Rattle.fields.specs.Others.{readStatus}
-use Rattle.record.specs.Rules.{recordAnswer}
+use Rattle.psc.specs.Table.{rightTable, holds}
 use Rattle.record.specs.Codes.{lacks}
-use Rattle.record.proofs.Order.{no-other-code}
 use Rattle.posting.specs.declared.FileAnswer.{FileAnswer}
-use Rattle.posting.specs.File.{recordAt, recordsIn, lineAnswer, refused, fileAnswer}
+use Rattle.posting.specs.File.{recordAt, recordsIn, refused, fileAnswer, tableRefused, fileCheck}
 use Rattle.posting.specs.Sums.{isLive}
-use Rattle.posting.specs.Outcomes.{LineOutcome, ends-wrong, breaks-table, repeats-earlier, right, FileOutcome, no-multiple, too-many, first-break, no-break}
-use Rattle.posting.proofs.Lines.{line-outcome}
-use Rattle.posting.proofs.FirstBreak.{file-outcome}
+use Rattle.posting.proofs.Codes as Codes
+use Rattle.posting.proofs.Codes.{no-other-file-code}
 use Rattle.closing.specs.Sets.{mainOf, inSet}
 use Rattle.closing.specs.Closing.{recordsOf, placeOf, closingAnswer}
 use Rattle.closing.specs.Links.{WholeBefore}
@@ -32,31 +29,17 @@ use Rattle.closing.proofs.Counting.{whole-exactly}
 use Rattle.closing.proofs.Numbers.{set-numbered}
 use Rattle.closing.proofs.FirstOf.{place-in-set, place-alone, whole-start, whole-more, closing-none, closing-first, refusal-stands, sets-asked}
 
--- ---- the file check has no code 240
-line-never-240 : (file : List ℕ) (i : ℕ) → lineAnswer file i .code ≡ 240 → ⊥
-unfolding lacks
-line-never-240 file i = go (line-outcome file i) (no-other-code false (recordAt file i) 240 refl)
-  where
-    says : {a b : Answer} → a ≡ b → a .code ≡ 240 → b .code ≡ 240
-    says e z = rw e at z
-
-    go : {a : Answer} → LineOutcome file i a → (recordAnswer false (recordAt file i) .code ≡ 240 → ⊥) → a .code ≡ 240 → ⊥
-    go (ends-wrong n e) t z = omega (arith, says e z)
-    go (breaks-table d n e) t z = t (says e z)
-    go (repeats-earlier d g r e) t z = omega (arith, says e z)
-    go (right d g n e) t z = omega (arith, says e z)
-
 coded : {a b : FileAnswer} {c : ℕ} → a ≡ b → a .code ≡ c → b .code ≡ c
 coded e z = rw e at z
 
-pub file-never-240 : (file : List ℕ) → fileAnswer file .code ≡ 240 → ⊥
-file-never-240 file = go (file-outcome file)
+-- ---- the file check has no code 240
+pub file-never-240 : (psc file : List ℕ) → fileCheck psc file .code ≡ 240 → ⊥
+unfolding fileCheck lacks
+file-never-240 psc file = go (rightTable psc)
   where
-    go : {a : FileAnswer} → FileOutcome file a → a .code ≡ 240 → ⊥
-    go (no-multiple n e) z = omega (arith, coded e z)
-    go (too-many m l e) z = omega (arith, coded e z)
-    go (first-break m l i h b x e) z = line-never-240 file i (coded e z)
-    go (no-break m l b e) z = omega (arith, coded e z)
+    go : (r : Bool) → cond r (fileAnswer (holds psc) file) tableRefused .code ≡ 240 → ⊥
+    go true z = no-other-file-code (holds psc) file 240 refl z
+    go false z = omega (arith, z)
 
 -- ---- the place of a record
 main-given : (rec : List ℕ) → inSet rec ≡ true → isBlank (mainOf rec) ≡ false
@@ -78,11 +61,11 @@ searched file (suc n) = go (searched file n) (eqb (placeOf (recordsOf file) (rec
     go (none w) false e = first n (omega arith) w (eqb-false _ 0 e)
 
 -- ---- an accepted file
-module _ (file : List ℕ) (z : fileAnswer file .code ≡ 0) where
+module _ (psc file : List ℕ) (z : fileCheck psc file .code ≡ 0) where
   place-whole : (i : ℕ) → inSet (recordAt file i) ≡ true → (placeOf (recordsOf file) (recordAt file i) ≡ 0) ↔ Whole (setOf file i)
   place-whole i m =
       rw (place-in-set (recordsOf file) (recordAt file i) m)
-      (whole-exactly (setOf file i) (set-numbered file z (mainOf (recordAt file i)) (main-given (recordAt file i) m)))
+      (whole-exactly (setOf file i) (set-numbered psc file z (mainOf (recordAt file i)) (main-given (recordAt file i) m)))
 
   -- a place other than 0 exactly if the record is live and its set offends
   pub place-exactly : (i : ℕ) → i < recordsIn file → (placeOf (recordsOf file) (recordAt file i) ≡ 0 → ⊥) ↔ Offends file i
@@ -99,49 +82,49 @@ module _ (file : List ℕ) (z : fileAnswer file .code ≡ 0) where
       go true e = eqb-true _ 0 e
       go false e = absurd (n j l (place-exactly j (omega arith) .0 (eqb-false _ 0 e)))
 
-  accepted-outcome : ClosingOutcome file (closingAnswer file)
+  accepted-outcome : ClosingOutcome psc file (closingAnswer psc file)
   accepted-outcome = go (searched file (recordsIn file))
     where
-      go : Searched file (recordsIn file) → ClosingOutcome file (closingAnswer file)
-      go (none w) = all-whole z (λ i h m. place-whole i m .0 (w i h)) (sets-asked file z ∙ closing-none (fileAnswer file) file w)
+      go : Searched file (recordsIn file) → ClosingOutcome psc file (closingAnswer psc file)
+      go (none w) = all-whole z (λ i h m. place-whole i m .0 (w i h)) (sets-asked psc file z ∙ closing-none (fileCheck psc file) file w)
       go (first i h w x) =
           let o = place-exactly i h .0 x in
           set-offends z i (record { offends = o; first = λ j l q. place-exactly j (q .inside) .1 q (w j l) }) (placeOf (recordsOf file) (recordAt file i))
           (set-outcome-exactly (setOf file i) _ .1 (place-in-set (recordsOf file) (recordAt file i) (o .member)))
-          (sets-asked file z ∙ closing-first (fileAnswer file) file i h w x)
+          (sets-asked psc file z ∙ closing-first (fileCheck psc file) file i h w x)
 
-  offence-named : (i : ℕ) → EarliestOffends file i → (place : ℕ) → SetOutcome (setOf file i) place → refused 240 (i + 1) place ≡ closingAnswer file
+  offence-named : (i : ℕ) → EarliestOffends file i → (place : ℕ) → SetOutcome (setOf file i) place → refused 240 (i + 1) place ≡ closingAnswer psc file
   offence-named i q place s =
       let o = q .offends in
       let e : place ≡ placeOf (recordsOf file) (recordAt file i) =
       set-outcome-exactly (setOf file i) place .0 s ∙ sym (place-in-set (recordsOf file) (recordAt file i) (o .member)) in
       let none = none-before i (omega (arith, o .inside)) (q .first) in
       rw e
-      (sym (sets-asked file z ∙ closing-first (fileAnswer file) file i (o .inside) none (place-exactly i (o .inside) .1 o)))
+      (sym (sets-asked psc file z ∙ closing-first (fileCheck psc file) file i (o .inside) none (place-exactly i (o .inside) .1 o)))
 
 -- ---- the outcome, and no other answer has such an outcome
-pub closing-outcome : (file : List ℕ) → ClosingOutcome file (closingAnswer file)
-closing-outcome file = go (eqb (fileAnswer file .code) 0) refl
+pub closing-outcome : (psc file : List ℕ) → ClosingOutcome psc file (closingAnswer psc file)
+closing-outcome psc file = go (eqb (fileCheck psc file .code) 0) refl
   where
-    go : (t : Bool) → eqb (fileAnswer file .code) 0 ≡ t → ClosingOutcome file (closingAnswer file)
-    go true e = accepted-outcome file (eqb-true _ 0 e)
-    go false e = let n = eqb-false _ 0 e in file-refused n (refusal-stands file n)
+    go : (t : Bool) → eqb (fileCheck psc file .code) 0 ≡ t → ClosingOutcome psc file (closingAnswer psc file)
+    go true e = accepted-outcome psc file (eqb-true _ 0 e)
+    go false e = let n = eqb-false _ 0 e in file-refused n (refusal-stands psc file n)
 
-pub outcome-exactly : (file : List ℕ) (a : FileAnswer) → ClosingOutcome file a ↔ (a ≡ closingAnswer file)
-outcome-exactly file a = (only, λ e. rw e (closing-outcome file))
+pub outcome-exactly : (psc file : List ℕ) (a : FileAnswer) → ClosingOutcome psc file a ↔ (a ≡ closingAnswer psc file)
+outcome-exactly psc file a = (only, λ e. rw e (closing-outcome psc file))
   where
-    only : ClosingOutcome file a → a ≡ closingAnswer file
-    only (file-refused n e) = e ∙ sym (refusal-stands file n)
-    only (set-offends z i q place s e) = e ∙ offence-named file z i q place s
+    only : ClosingOutcome psc file a → a ≡ closingAnswer psc file
+    only (file-refused n e) = e ∙ sym (refusal-stands psc file n)
+    only (set-offends z i q place s e) = e ∙ offence-named psc file z i q place s
     only (all-whole z w e) =
-        let none = none-before file z (recordsIn file) (omega arith) (λ j l o. o .broken (w j l (o .member))) in
-        e ∙ sym (sets-asked file z ∙ closing-none (fileAnswer file) file none)
+        let none = none-before psc file z (recordsIn file) (omega arith) (λ j l o. o .broken (w j l (o .member))) in
+        e ∙ sym (sets-asked psc file z ∙ closing-none (fileCheck psc file) file none)
 
 -- ---- code 0 exactly if the file may be closed
-pub accepted-exactly : (file : List ℕ) → (closingAnswer file .code ≡ 0) ↔ MayClose file
-accepted-exactly file = go (closing-outcome file)
+pub accepted-exactly : (psc file : List ℕ) → (closingAnswer psc file .code ≡ 0) ↔ MayClose psc file
+accepted-exactly psc file = go (closing-outcome psc file)
   where
-    go : {a : FileAnswer} → ClosingOutcome file a → (a .code ≡ 0) ↔ MayClose file
+    go : {a : FileAnswer} → ClosingOutcome psc file a → (a .code ≡ 0) ↔ MayClose psc file
     go (file-refused n e) = (λ c. absurd (n (coded e c)), λ m. absurd (n (m .accepted)))
     go (set-offends z i q place s e) = (
       λ c. absurd (omega (arith, coded e c)),
@@ -150,13 +133,22 @@ accepted-exactly file = go (closing-outcome file)
     go (all-whole z w e) = (λ c. record { accepted = z; whole = w }, λ m. coded (sym e) z)
 
 -- ---- 240 exactly if the file is accepted and some set offends
-pub code-240-exactly : (file : List ℕ) → (closingAnswer file .code ≡ 240) ↔ SetOffends file
-code-240-exactly file = go (closing-outcome file)
+pub code-240-exactly : (psc file : List ℕ) → (closingAnswer psc file .code ≡ 240) ↔ SetOffends psc file
+code-240-exactly psc file = go (closing-outcome psc file)
   where
-    go : {a : FileAnswer} → ClosingOutcome file a → (a .code ≡ 240) ↔ SetOffends file
-    go (file-refused n e) = (λ c. absurd (file-never-240 file (coded e c)), λ s. absurd (n (s .accepted)))
+    go : {a : FileAnswer} → ClosingOutcome psc file a → (a .code ≡ 240) ↔ SetOffends psc file
+    go (file-refused n e) = (λ c. absurd (file-never-240 psc file (coded e c)), λ s. absurd (n (s .accepted)))
     go (set-offends z i q place s e) = (λ c. record { accepted = z; number = i; offends = q .offends }, λ y. coded (sym e) refl)
     go (all-whole z w e) = (
-      λ c. absurd (file-never-240 file (coded e c)),
+      λ c. absurd (file-never-240 psc file (coded e c)),
       λ s. let o = s .offends in absurd (o .broken (w (s .number) (o .inside) (o .member))),
     )
+
+-- ---- 238 exactly if the lent table is wrong: the file check's, which stands
+pub code-238-exactly : (psc file : List ℕ) → (closingAnswer psc file .code ≡ 238) ↔ (rightTable psc ≡ false)
+code-238-exactly psc file = go (closing-outcome psc file) (Codes.code-238-exactly psc file)
+  where
+    go : {a : FileAnswer} → ClosingOutcome psc file a → (fileCheck psc file .code ≡ 238) ↔ (rightTable psc ≡ false) → (a .code ≡ 238) ↔ (rightTable psc ≡ false)
+    go (file-refused n e) i = (λ c. i .0 (coded e c), λ w. coded (sym e) (i .1 w))
+    go (set-offends z i q place s e) j = (λ c. absurd (omega (arith, coded e c)), λ w. absurd (omega (arith, z, j .1 w)))
+    go (all-whole z w e) j = (λ c. j .0 (coded e c), λ x. coded (sym e) (j .1 x))

@@ -11,7 +11,7 @@ use borrow.Author.Tests.{eq-eqb, ne-eqb}
 use lib.ListN.{length, getD}
 use Rattle.text.proofs.Booleans.{clash}
 use Rattle.posting.specs.declared.FileAnswer.{FileAnswer}
-use Rattle.posting.specs.File.{recordAt, recordsIn, refused, fileAnswer}
+use Rattle.posting.specs.File.{recordAt, recordsIn, refused, fileCheck}
 use Rattle.posting.proofs.RecordList.{length-upTo, upTo-nth}
 use Rattle.closing.specs.Sets.{mainOf, inSet, setUnder, offence}
 use Rattle.closing.specs.Closing.{recordsOf, placeOf, offends, oneMore, firstThat, earliest, closingOf, closingAnswer}
@@ -124,10 +124,10 @@ module _ (good : FileAnswer) (file : List ℕ) where
       rw (found, ne-eqb (suc i) 0 (λ z. omega arith), back, at-record i h, add-one)
 
 -- ---- the answer, as the file check came out
-pub refusal-stands : (file : List ℕ) → (fileAnswer file .code ≡ 0 → ⊥) → closingAnswer file ≡ fileAnswer file
+pub refusal-stands : (psc file : List ℕ) → (fileCheck psc file .code ≡ 0 → ⊥) → closingAnswer psc file ≡ fileCheck psc file
 unfolding closingAnswer
-refusal-stands file n = rw (ne-eqb (fileAnswer file .code) 0 n)
+refusal-stands psc file n = rw (ne-eqb (fileCheck psc file .code) 0 n)
 
-pub sets-asked : (file : List ℕ) → fileAnswer file .code ≡ 0 → closingAnswer file ≡ closingOf (fileAnswer file) (recordsOf file)
+pub sets-asked : (psc file : List ℕ) → fileCheck psc file .code ≡ 0 → closingAnswer psc file ≡ closingOf (fileCheck psc file) (recordsOf file)
 unfolding closingAnswer
-sets-asked file z = rw (eq-eqb (fileAnswer file .code) 0 z)
+sets-asked psc file z = rw (eq-eqb (fileCheck psc file .code) 0 z)

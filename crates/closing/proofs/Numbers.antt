@@ -25,16 +25,18 @@ use Rattle.fields.specs.Services.{servicesIn}
 use Rattle.fields.proofs.ByteLaws.{spaces-blank}
 use Rattle.fields.proofs.FrameLaws.{Way, way, blank, valued, neither}
 use Rattle.fields.proofs.NumberLaws.{count-exactly}
+use Rattle.psc.specs.Table.{Known, holds}
 use Rattle.record.specs.declared.rules.Travel.{Travel}
 use Rattle.record.specs.Table.{Case, Rule, at, rule, anyCase, broken}
 use Rattle.record.specs.Readings.{goodsOf, pieceOf}
-use Rattle.record.specs.Rules.{askedOf, travelOf, table}
+use Rattle.record.specs.Rules.{inFile, askedOf, travelOf, table}
 use Rattle.record.specs.Outcomes.{noneBroken}
 use Rattle.record.proofs.Status.{none-malformed}
-use Rattle.posting.specs.File.{recordAt, recordsIn, fileAnswer}
+use Rattle.posting.specs.File.{recordAt, recordsIn, fileCheck}
 use Rattle.posting.specs.Sums.{kept, isLive, live}
 use Rattle.posting.proofs.RecordList.{length-upTo, upTo-nth}
 use Rattle.posting.proofs.GoodFile.{good-file}
+use Rattle.posting.proofs.Codes.{accepted-by}
 use Rattle.closing.specs.Sets.{mainOf, serialOf, piecesOf, setUnder}
 use Rattle.closing.specs.Closing.{recordsOf}
 use Rattle.closing.specs.Outcomes.{Numbered}
@@ -93,24 +95,24 @@ needs-service : (s b : Bool) → (not s && b) ≡ false → b ≡ true → s ≡
 needs-service true b h e = refl
 needs-service false b h e = absurd (clash e h)
 
-module _ (rec : List ℕ) (keeps : noneBroken (table false rec) ≡ true) where
+module _ (known : Known) (rec : List ℕ) (keeps : noneBroken (table (inFile known) rec) ≡ true) where
   abbrev service : Bool
   service = askedOf (servicesIn (goodsOf rec .services)) .service70
 
   abbrev travel : Travel
   travel = travelOf rec (pieceOf rec)
 
-  set-rule : (k : ℕ) → getD (codedRule 72 (table false rec) .cases) k (at 0 false) .when ≡ false
-  set-rule k = no-case (codedRule 72 (table false rec) .cases) k (rule-kept 72 (table false rec) keeps)
+  set-rule : (k : ℕ) → getD (codedRule 72 (table (inFile known) rec) .cases) k (at 0 false) .when ≡ false
+  set-rule k = no-case (codedRule 72 (table (inFile known) rec) .cases) k (rule-kept 72 (table (inFile known) rec) keeps)
 
   pub numbered : isBlank (mainOf rec) ≡ false → (1 ≤ serialOf rec) × (serialOf rec ≤ piecesOf rec)
   unfolding table travelOf codedRule
   numbered filled =
-      let main : not (absentMain (readMain (mainOf rec))) ≡ true = ap not (main-filled (mainOf rec) filled (none-malformed false rec keeps 20)) in
+      let main : not (absentMain (readMain (mainOf rec))) ≡ true = ap not (main-filled (mainOf rec) filled (none-malformed (inFile known) rec keeps 20)) in
       let asked : service ≡ true = needs-service service _ (set-rule 6) main in
       let serial : absentNumber (readCount (fieldOf rec 23)) ≡ false = sym (Bool·not-not _) ∙ asked-for service _ (set-rule 2) asked in
       let above : ltb (piecesOf rec) (serialOf rec) ≡ false = asked-for service _ (set-rule 4) asked in
-      (count-low (fieldOf rec 23) (none-malformed false rec keeps 21) serial, ltb-false (piecesOf rec) (serialOf rec) above)
+      (count-low (fieldOf rec 23) (none-malformed (inFile known) rec keeps 21) serial, ltb-false (piecesOf rec) (serialOf rec) above)
 
 -- ---- one of those that a test keeps is one of the list, and passes the test
 pub record OneOf {A : Type 0} (p : A → Bool) (xs : List A) (d x : A) : Type 0 where
@@ -134,10 +136,10 @@ kept-one-of {A} p (x ∷ xs) d i h = go (p x) refl i h (kept-one-of p xs d)
     go false e i l ih = later (ih i l)
 
 -- ---- every set of an accepted file
-pub set-numbered : (file : List ℕ) (z : fileAnswer file .code ≡ 0) (main : List ℕ) → isBlank main ≡ false → Numbered (setUnder (recordsOf file) main)
+pub set-numbered : (psc file : List ℕ) (z : fileCheck psc file .code ≡ 0) (main : List ℕ) → isBlank main ≡ false → Numbered (setUnder (recordsOf file) main)
 unfolding setUnder
-set-numbered file z main filled i h =
-    let good = good-file file z in
+set-numbered psc file z main filled i h =
+    let good = good-file (holds psc) file (accepted-by psc file z) in
     let n : ℕ = recordsIn file in
     let a = kept-one-of (λ rec. sameBytes (mainOf rec) main) (live (recordsOf file)) [] i h in
     let rec : List ℕ = getD (kept (λ rec. sameBytes (mainOf rec) main) (live (recordsOf file))) i [] in
@@ -145,4 +147,4 @@ set-numbered file z main filled i h =
     let inside : b .at < n = omega (arith, b .inside, length-upTo (recordAt file) n) in
     let is : rec ≡ recordAt file (b .at) = sym (a .there) ∙ sym (b .there) ∙ upTo-nth (recordAt file) n (b .at) [] inside in
     let its : mainOf rec ≡ main = same-exactly (mainOf rec) main .0 (a .passes) in
-    numbered rec (ap (λ (r : List ℕ). noneBroken (table false r)) is ∙ good .keeps (b .at) inside) (ap isBlank its ∙ filled)
+    numbered (holds psc) rec (ap (λ (r : List ℕ). noneBroken (table (inFile (holds psc)) r)) is ∙ good .keeps (b .at) inside) (ap isBlank its ∙ filled)

@@ -16,9 +16,9 @@ use Rattle.index.specs.Index.{seek, found}
 use Rattle.index.specs.Laws.{Indexed}
 use Rattle.index.proofs.Slots.{seek-small}
 use Rattle.posting.specs.declared.FileAnswer.{FileAnswer}
-use Rattle.posting.specs.File.{recordAt, recordsIn, refused, fileAnswer}
+use Rattle.posting.specs.File.{recordAt, recordsIn, refused, fileCheck}
 use Rattle.posting.specs.Sums.{isLive}
-use Rattle.posting.proofs.FirstBreak.{accepted-exactly}
+use Rattle.posting.proofs.Codes.{check-accepts-exactly}
 use Rattle.closing.specs.Sets.{mainOf, countIn, inSet, setUnder, offence}
 use Rattle.closing.specs.Closing.{recordsOf, placeOf, closingOf, closingAnswer}
 use Rattle.closing.specs.Links.{mainAt, liveAt, lastLive, liveFrom, Linked, WholeRecords, NoneInSet, AllLinked, ToLink, Judged, WholeBefore}
@@ -134,24 +134,24 @@ pub none-offends : (good : FileAnswer) (file : List ℕ) (i : ℕ) → WholeBefo
 none-offends good file i known h = sym (closing-none good file (λ j l. known j (omega arith)))
 
 -- ---- check
-module _ (file : List ℕ) (a : FileAnswer) (ea : a ≡ fileAnswer file) where
-  pub file-stands : (a .code ≡ 0 → ⊥) → a ≡ closingAnswer file
-  file-stands n = ea ∙ sym (refusal-stands file (rw ea at n))
+module _ (psc file : List ℕ) (a : FileAnswer) (ea : a ≡ fileCheck psc file) where
+  pub file-stands : (a .code ≡ 0 → ⊥) → a ≡ closingAnswer psc file
+  file-stands n = ea ∙ sym (refusal-stands psc file (rw ea at n))
 
   module _ (z : a .code ≡ 0) where
-    code-is : fileAnswer file .code ≡ 0
+    code-is : fileCheck psc file .code ≡ 0
     code-is = rw ea at z
 
     pub accepted-whole : WholeRecords file
-    accepted-whole = let right = accepted-exactly file .0 code-is in record { whole = right .multiple; few = right .few }
+    accepted-whole = let right = check-accepts-exactly psc file .0 code-is .1 in record { whole = right .multiple; few = right .few }
 
     pub accepted-few : recordsIn file ≤ 999
     accepted-few = accepted-whole .few
 
-    pub closing-is : (r : FileAnswer) → r ≡ closingOf a (recordsOf file) → r ≡ closingAnswer file
-    closing-is r e = e ∙ ap (λ (good : FileAnswer). closingOf good (recordsOf file)) ea ∙ sym (sets-asked file code-is)
+    pub closing-is : (r : FileAnswer) → r ≡ closingOf a (recordsOf file) → r ≡ closingAnswer psc file
+    closing-is r e = e ∙ ap (λ (good : FileAnswer). closingOf good (recordsOf file)) ea ∙ sym (sets-asked psc file code-is)
 
-    pub no-sets : (b : Bool) → (b ≡ false → NoneInSet file) → not b ≡ true → a ≡ closingAnswer file
+    pub no-sets : (b : Bool) → (b ≡ false → NoneInSet file) → not b ≡ true → a ≡ closingAnswer psc file
     no-sets b none n = closing-is a (sym (closing-none a file (λ j l. place-alone (recordsOf file) (recordAt file j) (none (not-true b n) j l))))
 
 pub to-link : (file table links : List ℕ) (most : ℕ) → WholeRecords file → recordsIn file ≤ most → Indexed file 362 0 table → most + 1 < length table → most ≤ length links → ToLink file table links

@@ -6,7 +6,7 @@ use mathlib.Core.List.{List, [], _∷_}
 use lib.Dec.{eqb}
 use lib.ListN.{getD}
 use Rattle.posting.specs.declared.FileAnswer.{FileAnswer}
-use Rattle.posting.specs.File.{recordsIn, refused, fileAnswer}
+use Rattle.posting.specs.File.{recordsIn, refused, fileCheck}
 use Rattle.posting.specs.Records.{records}
 use Rattle.closing.specs.Sets.{mainOf, inSet, setUnder, offence}
 
@@ -38,6 +38,6 @@ earliest recs = firstThat (offends recs) recs
 unfoldable pub closingOf : FileAnswer → List (List ℕ) → FileAnswer
 closingOf good recs = cond (eqb (earliest recs) 0) good (refused 240 (earliest recs) (placeOf recs (getD recs (earliest recs - 1) [])))
 
--- after all file checks: the file's own refusal stands
-unfoldable pub closingAnswer : List ℕ → FileAnswer
-closingAnswer file = cond (eqb (fileAnswer file .code) 0) (closingOf (fileAnswer file) (recordsOf file)) (fileAnswer file)
+-- after all file checks, under a lent table of postcodes: the file's own refusal stands
+unfoldable pub closingAnswer : List ℕ → List ℕ → FileAnswer
+closingAnswer psc file = cond (eqb (fileCheck psc file .code) 0) (closingOf (fileCheck psc file) (recordsOf file)) (fileCheck psc file)

@@ -7,7 +7,7 @@ use mathlib.Core.List.{List, []}
 use lib.Dec.{eqb}
 use lib.ListN.{length, getD}
 use Rattle.posting.specs.declared.FileAnswer.{FileAnswer}
-use Rattle.posting.specs.File.{recordAt, recordsIn, refused, fileAnswer}
+use Rattle.posting.specs.File.{recordAt, recordsIn, refused, fileCheck}
 use Rattle.posting.specs.Sums.{kept}
 use Rattle.closing.specs.Sets.{mainOf, serialOf, piecesOf, inSet, setUnder, saidBy}
 use Rattle.closing.specs.Closing.{recordsOf}
@@ -81,19 +81,19 @@ pub record EarliestOffends (file : List ℕ) (i : ℕ) : Type 0 where
   pub first : (j : ℕ) → j < i → Offends file j → ⊥
 
 -- The file's own refusal; else 240 for the earliest live record whose set offends, and the place found over that whole set; else the totals of the file.
-pub data ClosingOutcome (file : List ℕ) (a : FileAnswer) : Type 0 where
-  file-refused : (fileAnswer file .code ≡ 0 → ⊥) → a ≡ fileAnswer file → ClosingOutcome file a
-  set-offends : fileAnswer file .code ≡ 0 → (i : ℕ) → EarliestOffends file i → (place : ℕ) → SetOutcome (setOf file i) place → a ≡ refused 240 (i + 1) place
-      → ClosingOutcome file a
-  all-whole : fileAnswer file .code ≡ 0 → EverySetWhole file → a ≡ fileAnswer file → ClosingOutcome file a
+pub data ClosingOutcome (psc file : List ℕ) (a : FileAnswer) : Type 0 where
+  file-refused : (fileCheck psc file .code ≡ 0 → ⊥) → a ≡ fileCheck psc file → ClosingOutcome psc file a
+  set-offends : fileCheck psc file .code ≡ 0 → (i : ℕ) → EarliestOffends file i → (place : ℕ) → SetOutcome (setOf file i) place → a ≡ refused 240 (i + 1) place
+      → ClosingOutcome psc file a
+  all-whole : fileCheck psc file .code ≡ 0 → EverySetWhole file → a ≡ fileCheck psc file → ClosingOutcome psc file a
 
 -- the file may be closed: code 0 is the answer exactly then
-pub record MayClose (file : List ℕ) : Type 0 where
-  pub accepted : fileAnswer file .code ≡ 0
+pub record MayClose (psc file : List ℕ) : Type 0 where
+  pub accepted : fileCheck psc file .code ≡ 0
   pub whole : EverySetWhole file
 
 -- an accepted file in which some set offends: 240 is the answer exactly then
-pub record SetOffends (file : List ℕ) : Type 0 where
-  pub accepted : fileAnswer file .code ≡ 0
+pub record SetOffends (psc file : List ℕ) : Type 0 where
+  pub accepted : fileCheck psc file .code ≡ 0
   pub number : ℕ
   pub offends : Offends file number

@@ -111,10 +111,11 @@ fn closed(good: FileAnswer, file: &[u8], table: &mut [u16], links: &mut [u16]) -
     first_offence(good, file, table, links)
 }
 
-pub fn check(file: &[u8]) -> FileAnswer
-    ensures { λ r. ⌜ Gives (closingAnswer (now (file .entry))) r ⌝ }
+// The closing check, under a table of the postcodes that exist.
+pub fn check(file: &[u8], psc: &[u32]) -> FileAnswer
+    ensures { λ r. ⌜ Gives (closingAnswer (now (psc .entry)) (now (file .entry))) r ⌝ }
 {
-    let answer = posting::check(file);
+    let answer = posting::check(file, psc);
     if answer.code != 0 {
         return answer;
     }
@@ -133,8 +134,8 @@ pub fn check(file: &[u8]) -> FileAnswer
 }
 
 // The line for a file that is to be closed, into a lent buffer.
-pub fn report(file: &[u8], out: &mut [u8]) -> Reported
-    ensures { λ r. ⌜ Report (closingAnswer (now (file .entry))) (now (out .entry)) r (now (out .exit)) ⌝ }
+pub fn report(file: &[u8], psc: &[u32], out: &mut [u8]) -> Reported
+    ensures { λ r. ⌜ Report (closingAnswer (now (psc .entry)) (now (file .entry))) (now (out .entry)) r (now (out .exit)) ⌝ }
 {
-    posting::put_report(check(file), out)
+    posting::put_report(check(file, psc), out)
 }

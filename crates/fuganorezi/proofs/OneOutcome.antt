@@ -10,11 +10,14 @@ use Rattle.ident.proofs.OneOutcome as Ident
 use Rattle.fields.specs.Calls as Fields
 use Rattle.fields.proofs.OneOutcome as Numbers
 use Rattle.posting.specs.declared.FileAnswer.{FileAnswer}
+use Rattle.psc.specs.declared.Reading.{Reading}
+use Rattle.psc.proofs.OneOutcome as Psc
 use Rattle.batch.specs.Batch.{Batch, Call}
+use Rattle.fuganorezi.specs.declared.TableOutcome.{TableOutcome}
 use Rattle.fuganorezi.specs.declared.BatchOutcome.{BatchOutcome}
 use Rattle.fuganorezi.specs.declared.CodeAndPlace.{CodeAndPlace}
 use Rattle.fuganorezi.specs.declared.IdentifierParts.{IdentifierParts}
-use Rattle.fuganorezi.specs.Calls.{IdentifierChecked, answerOf, RecordChecked, partsIn, IdentifierWritten, Answered, BatchCalled}
+use Rattle.fuganorezi.specs.Calls.{IdentifierChecked, answerOf, RecordChecked, partsIn, IdentifierWritten, readIn, TableRead, Answered, BatchCalled}
 
 pub identifier-checked-once : (id : List ℕ) (r s : ℕ) → IdentifierChecked id r → IdentifierChecked id s → r ≡ s
 identifier-checked-once id r s = gives-once _ r s
@@ -23,8 +26,8 @@ identifier-checked-once id r s = gives-once _ r s
 by-value-once : (r s : CodeAndPlace) → answerOf r ≡ answerOf s → r ≡ s
 by-value-once r s = ap (λ (a : Answer). record { code = a .code; place = a .place })
 
-pub record-checked-once : (toBePosted : Bool) (rec : List ℕ) (r s : CodeAndPlace) → RecordChecked toBePosted rec r → RecordChecked toBePosted rec s → r ≡ s
-record-checked-once toBePosted rec r s u v = by-value-once r s (u ∙ sym v)
+pub record-checked-once : (toBePosted : Bool) (table rec : List ℕ) (r s : CodeAndPlace) → RecordChecked toBePosted table rec r → RecordChecked toBePosted table rec s → r ≡ s
+record-checked-once toBePosted table rec r s u v = by-value-once r s (u ∙ sym v)
 
 pub identifier-written-once : (before : List ℕ) (p : IdentifierParts) (r s : CodeAndPlace) (after after′ : List ℕ)
     → IdentifierWritten before p r after → IdentifierWritten before p s after′ → (r ≡ s) × (after ≡ after′)
@@ -41,10 +44,16 @@ number-written-once width has text before r s after after′ u v =
 pub answered-once : (a : FileAnswer) (r s : ℕ) (out out′ : List ℕ) → Answered a r out → Answered a s out′ → (r ≡ s) × (out ≡ out′)
 answered-once a r s out out′ u v = (gives-once _ r s (u .code) (v .code), gives-once _ out out′ (u .numbers) (v .numbers))
 
-pub batch-called-once : (b : Batch) (call : Call) (r s : BatchOutcome) (file file′ journal journal′ : List ℕ)
-    → BatchCalled b call r file journal → BatchCalled b call s file′ journal′ → (r ≡ s) × (file ≡ file′) × (journal ≡ journal′)
-batch-called-once b call r s file file′ journal journal′ u v = (
+pub batch-called-once : (table : List ℕ) (b : Batch) (call : Call) (r s : BatchOutcome) (file file′ journal journal′ : List ℕ)
+    → BatchCalled table b call r file journal → BatchCalled table b call s file′ journal′ → (r ≡ s) × (file ≡ file′) × (journal ≡ journal′)
+batch-called-once table b call r s file file′ journal journal′ u v = (
   gives-once _ r s (u .outcome) (v .outcome),
   gives-once _ file file′ (u .filed) (v .filed),
   gives-once _ journal journal′ (u .journaled) (v .journaled),
 )
+
+-- ---- of reading a table
+pub table-read-once : (text before : List ℕ) (r s : TableOutcome) (after after′ : List ℕ) → TableRead text before r after → TableRead text before s after′ → (r ≡ s) × (after ≡ after′)
+table-read-once text before r s after after′ u v =
+    let once = Psc.table-read-once text before (readIn r) (readIn s) after after′ u v in
+    (ap (λ (x : Reading). record { code = x .answer .code; place = x .answer .place; entries = x .entries }) (once .0), once .1)

@@ -11,10 +11,10 @@ use Rattle.fields.specs.Calls as Fields
 use Rattle.posting.specs.declared.FileAnswer.{FileAnswer}
 use Rattle.batch.specs.declared.Counts.{Counts}
 use Rattle.batch.specs.declared.Outcome.{Outcome}
-use Rattle.batch.specs.Batch.{Batch, Call, batchOf, Called}
+use Rattle.batch.specs.Batch.{Batch, Call, batchOf, answerUnder, Called}
 use Rattle.fuganorezi.specs.declared.BatchOutcome.{BatchOutcome}
 use Rattle.fuganorezi.specs.declared.CodeAndPlace.{CodeAndPlace}
-use Rattle.fuganorezi.specs.Calls.{answerOf, Answered, outcomeOf, answerFor, BatchCalled}
+use Rattle.fuganorezi.specs.Calls.{answerOf, Answered, outcomeOf, BatchCalled}
 
 -- ---- one record, and the writers: what was promised of the answer holds of it by value
 pub answer-by-value : {a b : Answer} {r : CodeAndPlace} → a ≡ b → answerOf r ≡ a → answerOf r ≡ b
@@ -35,20 +35,20 @@ pub answered-as : {a b : FileAnswer} {r : ℕ} {out : List ℕ} → a ≡ b → 
 answered-as {a} {b} {r} {out} e told = subst (λ (x : FileAnswer). Answered x r out) e told
 
 -- ---- the batch
-pub told : {b : Batch} {call : Call} {o : Outcome} {r : BatchOutcome} {file journal : List ℕ}
-    → Called b call (o .answer) (o .counts) file journal → r ≡ outcomeOf (o .answer) (o .counts) → BatchCalled b call r file journal
-told {b} {call} {o} kept e =
+pub told : {table : List ℕ} {b : Batch} {call : Call} {o : Outcome} {r : BatchOutcome} {file journal : List ℕ}
+    → Called table b call (o .answer) (o .counts) file journal → r ≡ outcomeOf (o .answer) (o .counts) → BatchCalled table b call r file journal
+told {table} {b} {call} {o} kept e =
     record {
-      outcome = e ∙ ap (λ (a : Answer). outcomeOf a (o .counts)) (kept .answers) ∙ ap (outcomeOf (answerFor b call)) (kept .counted);
+      outcome = e ∙ ap (λ (a : Answer). outcomeOf a (o .counts)) (kept .answers) ∙ ap (outcomeOf (answerUnder table b call)) (kept .counted);
       filed = kept .filed;
       journaled = kept .journaled;
     }
 
 -- with the counts that C gave
-pub told-from : {before entries : List ℕ} {c given : Counts} {call : Call} {o : Outcome} {r : BatchOutcome} {file journal : List ℕ}
+pub told-from : {table before entries : List ℕ} {c given : Counts} {call : Call} {o : Outcome} {r : BatchOutcome} {file journal : List ℕ}
     → c ≡ given
-    → Called (batchOf before entries c) call (o .answer) (o .counts) file journal
+    → Called table (batchOf before entries c) call (o .answer) (o .counts) file journal
     → r ≡ outcomeOf (o .answer) (o .counts)
-    → BatchCalled (batchOf before entries given) call r file journal
-told-from {before} {entries} {c} {given} {call} {o} {r} {file} {journal} e kept t =
-    subst (λ (x : Counts). BatchCalled (batchOf before entries x) call r file journal) e (told kept t)
+    → BatchCalled table (batchOf before entries given) call r file journal
+told-from {table} {before} {entries} {c} {given} {call} {o} {r} {file} {journal} e kept t =
+    subst (λ (x : Counts). BatchCalled table (batchOf before entries x) call r file journal) e (told kept t)

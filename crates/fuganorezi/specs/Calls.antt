@@ -12,17 +12,19 @@ use Rattle.ident.specs.Calls as Ident
 use Rattle.fields.specs.declared.amounts.MoneyReading.the-variants as Money
 use Rattle.fields.specs.declared.amounts.WeightReading.the-variants as Weight
 use Rattle.fields.specs.Calls as Fields
-use Rattle.record.specs.Rules.{recordAnswer}
+use Rattle.psc.specs.declared.Reading.{Reading}
+use Rattle.psc.specs.Calls as Psc
+use Rattle.record.specs.Rules.{checkAnswer}
 use Rattle.posting.specs.declared.FileAnswer.{FileAnswer}
-use Rattle.posting.specs.File.{totals, fileAnswer}
+use Rattle.posting.specs.File.{totals, fileCheck}
 use Rattle.posting.specs.Report.{numbersOf}
 use Rattle.closing.specs.Closing.{closingAnswer}
 use Rattle.batch.specs.declared.Counts.{Counts}
-use Rattle.batch.specs.Rules.{posted}
-use Rattle.batch.specs.Batch.{Batch, Call, countsOf, answerTo, after}
+use Rattle.batch.specs.Batch.{Batch, Call, Open, countsOf, answerUnder, afterUnder}
 use Rattle.fuganorezi.specs.declared.BatchCounts.{BatchCounts}
 use Rattle.fuganorezi.specs.declared.BatchOutcome.{BatchOutcome}
 use Rattle.fuganorezi.specs.declared.CodeAndPlace.{CodeAndPlace}
+use Rattle.fuganorezi.specs.declared.TableOutcome.{TableOutcome}
 use Rattle.fuganorezi.specs.declared.IdentifierParts.{IdentifierParts}
 
 -- the code of the identifier check
@@ -33,9 +35,9 @@ IdentifierChecked s r = r ≡ cond (rightId s) (accepted .code) (Ident.notRight 
 abbrev pub answerOf : CodeAndPlace → Answer
 answerOf r = answer (r .code) (r .place)
 
--- the answer to a record in a file, or to one to be posted
-abbrev pub RecordChecked : Bool → List ℕ → CodeAndPlace → Type 0
-RecordChecked toBePosted rec r = answerOf r ≡ recordAnswer toBePosted rec
+-- the answer to a record in a file, or to one to be posted, under a table of postcodes
+abbrev pub RecordChecked : Bool → List ℕ → List ℕ → CodeAndPlace → Type 0
+RecordChecked toBePosted table rec r = answerOf r ≡ checkAnswer toBePosted table rec
 
 abbrev pub partsIn : IdentifierParts → Parts
 partsIn p = record { first = p .first; second = p .second; last = p .last; consignor = p .consignor; posting = p .posting }
@@ -50,6 +52,13 @@ AmountWritten before hellers r after = Fields.MoneyWritten before (Money.Value (
 abbrev pub WeightWritten : List ℕ → ℕ → CodeAndPlace → List ℕ → Type 0
 WeightWritten before grams r after = Fields.WeightWritten before (Weight.Value (record { 0 = grams })) (answerOf r) after
 
+-- ---- the table of postcodes: what reading its text promises, below
+abbrev pub readIn : TableOutcome → Reading
+readIn r = record { answer = answer (r .code) (r .place); entries = r .entries }
+
+abbrev pub TableRead : List ℕ → List ℕ → TableOutcome → List ℕ → Type 0
+TableRead text before r after = Psc.TableRead text before (readIn r) after
+
 -- ---- a whole file
 
 -- of an answer to a file: its code, and in `out` all its seven numbers, whatever stood there
@@ -58,11 +67,11 @@ pub record Answered (a : FileAnswer) (r : ℕ) (out : List ℕ) : Type 0 where
   pub numbers : out ≡ numbersOf a
 
 -- so of the file check, and of the closing check
-abbrev pub FileChecked : List ℕ → ℕ → List ℕ → Type 0
-FileChecked file = Answered (fileAnswer file)
+abbrev pub FileChecked : List ℕ → List ℕ → ℕ → List ℕ → Type 0
+FileChecked table file = Answered (fileCheck table file)
 
-abbrev pub ClosingChecked : List ℕ → ℕ → List ℕ → Type 0
-ClosingChecked file = Answered (closingAnswer file)
+abbrev pub ClosingChecked : List ℕ → List ℕ → ℕ → List ℕ → Type 0
+ClosingChecked table file = Answered (closingAnswer table file)
 
 -- ---- the batch: its counts and its outcome, in C's structs
 abbrev pub countsIn : BatchCounts → Counts
@@ -82,15 +91,12 @@ countsOut c =
 abbrev pub outcomeOf : Answer → Counts → BatchOutcome
 outcomeOf a c = record { code = a .code; place = a .place; counts = countsOut c }
 
--- what a call answers and leaves, under the record's own verdict
-abbrev pub answerFor : Batch → Call → Answer
-answerFor = answerTo posted
+-- of a call under a table of postcodes: code, place and counts, and the file and the journal at exit
+pub record BatchCalled (table : List ℕ) (b : Batch) (call : Call) (r : BatchOutcome) (file journal : List ℕ) : Type 0 where
+  pub outcome : r ≡ outcomeOf (answerUnder table b call) (afterUnder table b call .counts)
+  pub filed : file ≡ afterUnder table b call .file
+  pub journaled : journal ≡ afterUnder table b call .journal
 
-abbrev pub leftBy : Batch → Call → Batch
-leftBy = after posted
-
--- of a call: code, place and counts, and the file and the journal at exit
-pub record BatchCalled (b : Batch) (call : Call) (r : BatchOutcome) (file journal : List ℕ) : Type 0 where
-  pub outcome : r ≡ outcomeOf (answerFor b call) (leftBy b call .counts)
-  pub filed : file ≡ leftBy b call .file
-  pub journaled : journal ≡ leftBy b call .journal
+-- an opening takes no table: what it promises holds under any
+abbrev pub BatchOpened : Batch → BatchOutcome → List ℕ → List ℕ → Type 0
+BatchOpened b r file journal = (table : List ℕ) → BatchCalled table b Open r file journal

@@ -6,10 +6,8 @@ use mathlib.Core.Path.{_≡_}
 use mathlib.Core.List.{List, [], _∷_, map}
 use Rattle.text.specs.declared.Answer.{Answer}
 use Rattle.text.specs.Answers.{answer, accepted}
-use Rattle.batch.specs.Rules.{posted}
 use Rattle.batch.specs.Batch.{Batch, batchOf, noCounts, Call, Open, made}
-use Rattle.batch.specs.History.{standingByRules, answersByRules}
-use Rattle.batch.specs.Demand.{givenTo}
+use Rattle.batch.specs.Demand.{givenTo, answersUnder, standingUnder}
 use Rattle.fuganorezi.specs.declared.BatchCounts.{BatchCounts}
 use Rattle.fuganorezi.specs.declared.BatchOutcome.{BatchOutcome}
 use Rattle.fuganorezi.specs.Calls.{countsIn, countsOut, BatchCalled}
@@ -29,31 +27,31 @@ answerIn r = answer (r .code) (r .place)
 
 -- ---- a run of calls
 -- an outcome that keeps the promise of the function for C: the buffers that it leaves
-pub record PromisedInC (s : CallersBatch) (call : Call) (r : BatchOutcome) : Type 0 where
+pub record PromisedInC (table : List ℕ) (s : CallersBatch) (call : Call) (r : BatchOutcome) : Type 0 where
   pub file : List ℕ
   pub journal : List ℕ
-  pub promised : BatchCalled (givenTo call (batchIn s)) call r file journal
+  pub promised : BatchCalled table (givenTo call (batchIn s)) call r file journal
 
-abbrev pub leftInC : {s : CallersBatch} {call : Call} {r : BatchOutcome} → PromisedInC s call r → CallersBatch
-leftInC {s} {call} {r} o = record { file = o .file; journal = o .journal; counts = r .counts }
+abbrev pub leftInC : {table : List ℕ} {s : CallersBatch} {call : Call} {r : BatchOutcome} → PromisedInC table s call r → CallersBatch
+leftInC {table} {s} {call} {r} o = record { file = o .file; journal = o .journal; counts = r .counts }
 
--- from s these calls gave these outcomes and left e
-abbrev pub RunInC : CallersBatch → List Call → List BatchOutcome → CallersBatch → Type 0
-RunInC s [] [] e = e ≡ s
-RunInC s [] (r ∷ outcomes) e = ⊥
-RunInC s (call ∷ calls) [] e = ⊥
-RunInC s (call ∷ calls) (r ∷ outcomes) e = (o : PromisedInC s call r) × RunInC (leftInC o) calls outcomes e
+-- from s these calls, each under the same table of postcodes, gave these outcomes and left e
+abbrev pub RunInC : List ℕ → CallersBatch → List Call → List BatchOutcome → CallersBatch → Type 0
+RunInC table s [] [] e = e ≡ s
+RunInC table s [] (r ∷ outcomes) e = ⊥
+RunInC table s (call ∷ calls) [] e = ⊥
+RunInC table s (call ∷ calls) (r ∷ outcomes) e = (o : PromisedInC table s call r) × RunInC table (leftInC o) calls outcomes e
 
 -- ---- demand 3, of a run of an opening and these calls: the answers are those that the rules give, and the buffers and counts what the standing actions make
-abbrev pub madeByRules : ℕ → ℕ → List Call → Batch
-madeByRules n m calls = made n m (standingByRules posted n m calls)
+abbrev pub madeByRules : List ℕ → ℕ → ℕ → List Call → Batch
+madeByRules table n m calls = made n m (standingUnder table n m calls)
 
-pub record Demand3InC (n m : ℕ) (calls : List Call) (opening : BatchOutcome) (outcomes : List BatchOutcome) (e : CallersBatch) : Type 0 where
+pub record Demand3InC (table : List ℕ) (n m : ℕ) (calls : List Call) (opening : BatchOutcome) (outcomes : List BatchOutcome) (e : CallersBatch) : Type 0 where
   pub opens : answerIn opening ≡ accepted
-  pub answered : map answerIn outcomes ≡ answersByRules posted n m calls
-  pub file : e .file ≡ madeByRules n m calls .file
-  pub journal : e .journal ≡ madeByRules n m calls .journal
-  pub counts : e .counts ≡ countsOut (madeByRules n m calls .counts)
+  pub answered : map answerIn outcomes ≡ answersUnder table n m calls
+  pub file : e .file ≡ madeByRules table n m calls .file
+  pub journal : e .journal ≡ madeByRules table n m calls .journal
+  pub counts : e .counts ≡ countsOut (madeByRules table n m calls .counts)
 
 -- ---- a refusal changes nothing and gives back the counts it got; a refused opening gives zero counts
 pub record ChangesNothingInC (s : CallersBatch) (call : Call) (e : CallersBatch) : Type 0 where

@@ -1,8 +1,8 @@
 // The interface for C, declared in include/fuganorezi.h: byte slices and numbers in, numbers out.
 ghost use mathlib.Core.Path.{_≡_};
 ghost use mathlib.Core.Bool.{true, false};
-ghost use Rattle.batch.specs.Batch.{noCounts, batchOf, Open, Add, Amend, Cancel, Undo};
-ghost use Rattle.fuganorezi.specs.Calls.{IdentifierChecked, answerOf, RecordChecked, partsIn, IdentifierWritten, AmountWritten, WeightWritten, Answered, FileChecked, ClosingChecked, countsIn, outcomeOf, BatchCalled};
+ghost use Rattle.batch.specs.Batch.{noCounts, batchOf, Add, Amend, Cancel, Undo};
+ghost use Rattle.fuganorezi.specs.Calls.{IdentifierChecked, answerOf, RecordChecked, partsIn, IdentifierWritten, AmountWritten, WeightWritten, TableRead, Answered, FileChecked, ClosingChecked, countsIn, outcomeOf, BatchCalled, BatchOpened};
 use batch::Counts;
 use batch::Outcome;
 use fields::Grams;
@@ -48,17 +48,17 @@ fn by_value(a: Answer) -> CodeAndPlace
 }
 
 #[no_mangle]
-pub extern "C" fn fuganorezi_record_check(bytes: &[u8]) -> CodeAndPlace
-    ensures { λ r. ⌜ RecordChecked false (now (bytes .entry)) r ⌝ }
+pub extern "C" fn fuganorezi_record_check(bytes: &[u8], table: &[u32]) -> CodeAndPlace
+    ensures { λ r. ⌜ RecordChecked false (now (table .entry)) (now (bytes .entry)) r ⌝ }
 {
-    by_value(record::check(bytes))
+    by_value(record::check(bytes, table))
 }
 
 #[no_mangle]
-pub extern "C" fn fuganorezi_record_check_posting(bytes: &[u8]) -> CodeAndPlace
-    ensures { λ r. ⌜ RecordChecked true (now (bytes .entry)) r ⌝ }
+pub extern "C" fn fuganorezi_record_check_posting(bytes: &[u8], table: &[u32]) -> CodeAndPlace
+    ensures { λ r. ⌜ RecordChecked true (now (table .entry)) (now (bytes .entry)) r ⌝ }
 {
-    by_value(record::check_posting(bytes))
+    by_value(record::check_posting(bytes, table))
 }
 
 fn parts_in(p: IdentifierParts) -> Parts
@@ -97,6 +97,28 @@ pub extern "C" fn fuganorezi_weight_write(bytes: &mut [u8], grams: u64) -> CodeA
     by_value(fields::write_weight(bytes, WeightReading::Value(Grams(grams))))
 }
 
+// ---- the table of postcodes from its text
+
+#[repr(C)]
+pub struct TableOutcome {
+    pub code: u32,
+    pub place: u32,
+    pub entries: u64,
+}
+
+#[no_mangle]
+pub extern "C" fn fuganorezi_table_read(text: &[u8], table: &mut [u32]) -> TableOutcome
+    ensures { λ r. ⌜ TableRead (now (text .entry)) (now (table .entry)) r (now (table .exit)) ⌝ }
+{
+    let read = psc::read(text, table);
+    let said = read.answer;
+    TableOutcome {
+        code: said.code,
+        place: said.place,
+        entries: read.entries as u64,
+    }
+}
+
 // ---- a whole file
 // The code is the result and stands in `out` too, so that `out` alone has the whole answer.
 fn told(answer: FileAnswer, out: &mut [u64; 7]) -> u32
@@ -107,17 +129,17 @@ fn told(answer: FileAnswer, out: &mut [u64; 7]) -> u32
 }
 
 #[no_mangle]
-pub extern "C" fn fuganorezi_file_check(bytes: &[u8], out: &mut [u64; 7]) -> u32
-    ensures { λ r. ⌜ FileChecked (now (bytes .entry)) r (now (out .exit)) ⌝ }
+pub extern "C" fn fuganorezi_file_check(bytes: &[u8], table: &[u32], out: &mut [u64; 7]) -> u32
+    ensures { λ r. ⌜ FileChecked (now (table .entry)) (now (bytes .entry)) r (now (out .exit)) ⌝ }
 {
-    told(posting::check(bytes), out)
+    told(posting::check(bytes, table), out)
 }
 
 #[no_mangle]
-pub extern "C" fn fuganorezi_closing_check(bytes: &[u8], out: &mut [u64; 7]) -> u32
-    ensures { λ r. ⌜ ClosingChecked (now (bytes .entry)) r (now (out .exit)) ⌝ }
+pub extern "C" fn fuganorezi_closing_check(bytes: &[u8], table: &[u32], out: &mut [u64; 7]) -> u32
+    ensures { λ r. ⌜ ClosingChecked (now (table .entry)) (now (bytes .entry)) r (now (out .exit)) ⌝ }
 {
-    told(closing::check(bytes), out)
+    told(closing::check(bytes, table), out)
 }
 
 // ---- the open batch: its counts go in and come out by value, amounts in haléře as plain numbers
@@ -179,7 +201,7 @@ fn outcome_of(o: Outcome) -> BatchOutcome
 
 #[no_mangle]
 pub extern "C" fn fuganorezi_batch_open(file: &mut [u8], journal: &mut [u8]) -> BatchOutcome
-    ensures { λ r. ⌜ BatchCalled (batchOf (now (file .entry)) (now (journal .entry)) noCounts) Open r (now (file .exit)) (now (journal .exit)) ⌝ }
+    ensures { λ r. ⌜ BatchOpened (batchOf (now (file .entry)) (now (journal .entry)) noCounts) r (now (file .exit)) (now (journal .exit)) ⌝ }
 {
     outcome_of(batch::open(file, journal))
 }
@@ -190,10 +212,11 @@ pub extern "C" fn fuganorezi_batch_add(
     journal: &mut [u8],
     counts: BatchCounts,
     rec: &[u8],
+    table: &[u32],
 ) -> BatchOutcome
-    ensures { λ r. ⌜ BatchCalled (batchOf (now (file .entry)) (now (journal .entry)) (countsIn counts)) (Add (now (rec .entry))) r (now (file .exit)) (now (journal .exit)) ⌝ }
+    ensures { λ r. ⌜ BatchCalled (now (table .entry)) (batchOf (now (file .entry)) (now (journal .entry)) (countsIn counts)) (Add (now (rec .entry))) r (now (file .exit)) (now (journal .exit)) ⌝ }
 {
-    outcome_of(batch::add(file, journal, counts_in(counts), rec))
+    outcome_of(batch::add(file, journal, counts_in(counts), rec, table))
 }
 
 #[no_mangle]
@@ -202,10 +225,11 @@ pub extern "C" fn fuganorezi_batch_amend(
     journal: &mut [u8],
     counts: BatchCounts,
     rec: &[u8],
+    table: &[u32],
 ) -> BatchOutcome
-    ensures { λ r. ⌜ BatchCalled (batchOf (now (file .entry)) (now (journal .entry)) (countsIn counts)) (Amend (now (rec .entry))) r (now (file .exit)) (now (journal .exit)) ⌝ }
+    ensures { λ r. ⌜ BatchCalled (now (table .entry)) (batchOf (now (file .entry)) (now (journal .entry)) (countsIn counts)) (Amend (now (rec .entry))) r (now (file .exit)) (now (journal .exit)) ⌝ }
 {
-    outcome_of(batch::amend(file, journal, counts_in(counts), rec))
+    outcome_of(batch::amend(file, journal, counts_in(counts), rec, table))
 }
 
 #[no_mangle]
@@ -214,10 +238,11 @@ pub extern "C" fn fuganorezi_batch_cancel(
     journal: &mut [u8],
     counts: BatchCounts,
     identifier: &[u8],
+    table: &[u32],
 ) -> BatchOutcome
-    ensures { λ r. ⌜ BatchCalled (batchOf (now (file .entry)) (now (journal .entry)) (countsIn counts)) (Cancel (now (identifier .entry))) r (now (file .exit)) (now (journal .exit)) ⌝ }
+    ensures { λ r. ⌜ BatchCalled (now (table .entry)) (batchOf (now (file .entry)) (now (journal .entry)) (countsIn counts)) (Cancel (now (identifier .entry))) r (now (file .exit)) (now (journal .exit)) ⌝ }
 {
-    outcome_of(batch::cancel(file, journal, counts_in(counts), identifier))
+    outcome_of(batch::cancel(file, journal, counts_in(counts), identifier, table))
 }
 
 #[no_mangle]
@@ -225,8 +250,9 @@ pub extern "C" fn fuganorezi_batch_undo(
     file: &mut [u8],
     journal: &mut [u8],
     counts: BatchCounts,
+    table: &[u32],
 ) -> BatchOutcome
-    ensures { λ r. ⌜ BatchCalled (batchOf (now (file .entry)) (now (journal .entry)) (countsIn counts)) Undo r (now (file .exit)) (now (journal .exit)) ⌝ }
+    ensures { λ r. ⌜ BatchCalled (now (table .entry)) (batchOf (now (file .entry)) (now (journal .entry)) (countsIn counts)) Undo r (now (file .exit)) (now (journal .exit)) ⌝ }
 {
-    outcome_of(batch::undo(file, journal, counts_in(counts)))
+    outcome_of(batch::undo(file, journal, counts_in(counts), table))
 }

@@ -1,1 +1,2 @@
 pub mod LongInputs
+pub mod Ways

@@ -1,11 +1,13 @@
-// The program for the closing check: reads a K file from standard input and prints the line of seven numbers that says whether it may be closed.
+// The program for the closing check: reads a K file from standard input and the postcodes that exist from psc.txt, and prints the line of seven
+// numbers that says whether the file may be closed.
 // Its messages begin as those of the checking program do: both are run by the script `kcheck`.
 ghost use Prim.Native.Nat.{_%_, _≤_, _<_};
 ghost use mathlib.Core.Path.{_≡_};
 ghost use lib.ListN.{length};
 ghost use Rattle.io.specs.Counts.{Counts};
-ghost use Rattle.posting.specs.Report.{longestLine, WholeLine};
+ghost use Rattle.posting.specs.Report.{underText, longestLine, WholeLine};
 ghost use Rattle.closing.specs.Closing.{closingAnswer};
+use libc::ENOENT;
 use libc::STDIN_FILENO;
 use libc::STDOUT_FILENO;
 use posting::Reported;
@@ -13,21 +15,67 @@ use posting::Reported;
 // A loop has to end, and nothing says that an input does. None has so many blocks.
 const MOST: u64 = 1_000_000_000_000_000_000;
 
-// The line for what was read. There is room for every line, so it is always the whole one.
-fn put_line(file: &[u8], line: &mut [u8]) -> Reported
-    requires { ⌜ longestLine ≤ length (now line) ⌝ }
-    ensures { λ r. ⌜ WholeLine (closingAnswer (now (file .entry))) r (now (line .exit)) ⌝ }
+// The line for what was read. There is room for every table and every line, so it is always the whole one.
+fn put_line(text: &[u8], file: &[u8], table: &mut [u32], line: &mut [u8]) -> Reported
+    requires { ⌜ (16000 ≤ length (now table)) × (longestLine ≤ length (now line)) ⌝ }
+    ensures { λ r. ⌜ WholeLine (underText (now (text .entry)) (λ psc. closingAnswer psc (now (file .entry)))) r (now (line .exit)) ⌝ }
 {
-    closing::report(file, line)
+    let read = psc::read(text, table);
+    let answer = read.answer;
+    if answer.code != 0 {
+        return posting::put_report(posting::table_refused(), line);
+    }
+    let n = read.entries;
+    closing::report(file, &table[..n], line)
 }
 
-fn print_report(file: &[u8]) {
+fn print_report(text: &[u8], file: &[u8]) {
+    let mut table = [0u32; psc::MOST_ENTRIES];
     let mut line = [0u8; posting::LONGEST_LINE];
-    let reported = put_line(file, &mut line);
+    let reported = put_line(text, file, &mut table, &mut line);
     let n = reported.length;
     if !io::write_all(STDOUT_FILENO, &line[..n]) {
         os::fail(b"kcheck: standard output");
     }
+}
+
+// ---- the table
+
+// What was read of psc.txt: whether all of it was, and how many bytes are in the buffer.
+struct Text {
+    whole: bool,
+    length: usize,
+}
+
+// Where there is no psc.txt, the table is empty, and so is its text.
+fn read_text(text: &mut [u8]) -> Text
+    ensures { λ r. ⌜ Counts (r .length) (now (text .exit)) ⌝ }
+{
+    let fd = os::open_read(b"psc.txt");
+    if fd < 0 {
+        return Text {
+            whole: os::errno() == ENOENT,
+            length: 0,
+        };
+    }
+    let length = io::read_full(fd, text);
+    Text {
+        whole: os::errno() == 0,
+        length,
+    }
+}
+
+// Reads the table only now: a call that fails for psc.txt must not look as if standard input were not read.
+fn report_on(file: &[u8]) {
+    // One byte more than the text of a table has, so that the program sees a longer one.
+    let mut text = [0u8; psc::MOST_TEXT + 1];
+    let read = read_text(&mut text);
+    if !read.whole {
+        os::fail(b"kcheck: psc.txt");
+        return;
+    }
+    let n = read.length;
+    print_report(&text[..n], file);
 }
 
 // ---- reading: into one block, which has room for 1,000 records
@@ -77,7 +125,7 @@ fn close_input(block: &mut [u8])
         os::fail(b"kcheck: standard input");
         return;
     }
-    print_report(&block[..n]);
+    report_on(&block[..n]);
 }
 
 fn main() {

@@ -10,13 +10,14 @@ use native.Mathlib.Omega.{arith}
 use lib.ListN.{length, getD, length-append}
 use Rattle.text.proofs.Booleans.{clash}
 use Rattle.text.specs.Lists.{joined}
+use Rattle.psc.specs.Table.{Known}
 use Rattle.layout.specs.Layout.{fieldOf}
 use Rattle.fields.specs.declared.others.StatusReading.{StatusReading}
 use Rattle.fields.specs.declared.others.StatusReading.the-variants as Status
 use Rattle.fields.specs.Others.{readStatus}
 use Rattle.fields.specs.Amounts.{malformedMoney}
 use Rattle.record.specs.Readings.{malformedStatus}
-use Rattle.record.specs.Rules.{table}
+use Rattle.record.specs.Rules.{inFile, table}
 use Rattle.record.specs.Outcomes.{noneBroken}
 use Rattle.record.proofs.Order.{accepted-exactly as record-accepted-exactly}
 use Rattle.record.proofs.Status.{none-malformed}
@@ -31,11 +32,11 @@ use Rattle.posting.proofs.RecordList.{kept-last, length-upTo, upTo-nth,
 use Rattle.posting.proofs.PrintedLines.{all-lines-long, record-there, id-there, ended-there, totals-there}
 
 -- ---- what the totals read of a record that keeps the table is well-formed
-pub readable : (rec : List ℕ) → noneBroken (table false rec) ≡ true → Readable rec
-readable rec h = record {
-  status = λ e. clash (ap (malformedStatus false) e) (none-malformed false rec h 17);
-  cash = λ e. clash (ap malformedMoney e) (none-malformed false rec h 14);
-  price = λ e. clash (ap malformedMoney e) (none-malformed false rec h 15);
+pub readable : (known : Known) (rec : List ℕ) → noneBroken (table (inFile known) rec) ≡ true → Readable rec
+readable known rec h = record {
+  status = λ e. clash (ap (malformedStatus false) e) (none-malformed (inFile known) rec h 17);
+  cash = λ e. clash (ap malformedMoney e) (none-malformed (inFile known) rec h 14);
+  price = λ e. clash (ap malformedMoney e) (none-malformed (inFile known) rec h 15);
 }
 
 -- ---- rows that are alike
@@ -68,9 +69,9 @@ each-counted f (suc n) h =
     go l c Status.Malformed m e = absurd (m refl)
 
 -- ---- a file that is accepted
-module _ (file : List ℕ) (z : fileAnswer file .code ≡ 0) where
-  all-right : AllRight file
-  all-right = accepted-exactly file .0 z
+module _ (known : Known) (file : List ℕ) (z : fileAnswer known file .code ≡ 0) where
+  all-right : AllRight known file
+  all-right = accepted-exactly known file .0 z
 
   whole : length file ≡ recordsIn file * 401
   whole = omega (arith, all-right .multiple)
@@ -78,8 +79,8 @@ module _ (file : List ℕ) (z : fileAnswer file .code ≡ 0) where
   wide-there : (i : ℕ) → i < recordsIn file → length (recordAt file i) ≡ 399
   wide-there i h = record-wide file i (omega (arith, whole))
 
-  keeps-there : (i : ℕ) → i < recordsIn file → noneBroken (table false (recordAt file i)) ≡ true
-  keeps-there i h = record-accepted-exactly false (recordAt file i) (wide-there i h) .0 (all-right .lines i h .table)
+  keeps-there : (i : ℕ) → i < recordsIn file → noneBroken (table (inFile known) (recordAt file i)) ≡ true
+  keeps-there i h = record-accepted-exactly (inFile known) (recordAt file i) (wide-there i h) .0 (all-right .lines i h .table)
 
   lines-end : (i : ℕ) → i < recordsIn file → lineAt file i ≡ lineOf (recordAt file i)
   lines-end i h = let e = all-right .lines i h .ended in line-is file i (omega (arith, whole)) ∙ rw (e .return, e .feed)
@@ -89,64 +90,64 @@ module _ (file : List ℕ) (z : fileAnswer file .code ≡ 0) where
       map-upTo lineOf (recordAt file) (recordsIn file)
       ∙ sym (upTo-same (lineAt file) (λ i. lineOf (recordAt file i)) (recordsIn file) lines-end)
 
-  passes : fileAnswer file ≡ passed (totalsOver file (recordsIn file))
+  passes : fileAnswer known file ≡ passed (totalsOver file (recordsIn file))
   passes =
       let a = all-right in
-      sym (outcome-exactly file _ .0 (no-break (a .multiple) (a .few) (λ i h. line-right-exactly file i .1 (a .lines i h)) refl))
+      sym (outcome-exactly known file _ .0 (no-break (a .multiple) (a .few) (λ i h. line-right-exactly known file i .1 (a .lines i h)) refl))
 
-  pub good-file : GoodFile file (recordsIn file)
+  pub good-file : GoodFile known file (recordsIn file)
   good-file = record {
     bytes = sym (ap joined ends ∙ records-tile file (recordsIn file) whole .together);
     wide = wide-there;
     keeps = keeps-there;
     apart = λ i j h l e. all-right .lines j l .fresh i h e;
-    reads = λ i h. readable (recordAt file i) (keeps-there i h);
-    counts = each-counted (recordAt file) (recordsIn file) (λ i h. readable (recordAt file i) (keeps-there i h) .status);
+    reads = λ i h. readable known (recordAt file i) (keeps-there i h);
+    counts = each-counted (recordAt file) (recordsIn file) (λ i h. readable known (recordAt file i) (keeps-there i h) .status);
     answers = passes ∙ ap passed (totals-are-sums file (recordsIn file));
   }
 
 -- ---- records that make a good file
-module _ (recs : List (List ℕ)) (g : GoodRecords recs) where
+module _ {known : Known} (recs : List (List ℕ)) (g : GoodRecords known recs) where
   -- the file, with nothing behind it
   abbrev whole-file : List ℕ
   whole-file = linesOf recs ++ []
 
-  right-there : (i : ℕ) → i < length recs → RightLine whole-file i
+  right-there : (i : ℕ) → i < length recs → RightLine known whole-file i
   right-there i h = record {
     ended = ended-there recs [] i (g .wide) h;
-    table = rw (record-there recs [] i (g .wide) h) (record-accepted-exactly false (getD recs i []) (g .wide i h) .1 (g .keeps i h));
+    table = rw (record-there recs [] i (g .wide) h) (record-accepted-exactly (inFile known) (getD recs i []) (g .wide i h) .1 (g .keeps i h));
     fresh = λ j l e. g .apart j i l h (sym (id-there recs [] j (g .wide) (omega arith)) ∙ e ∙ id-there recs [] i (g .wide) h);
   }
 
-  pub file-passes : fileAnswer (linesOf recs) ≡ passed (totalsOf recs)
+  pub file-passes : fileAnswer known (linesOf recs) ≡ passed (totalsOf recs)
   file-passes =
       let long : length whole-file ≡ length recs * 401 = omega (arith, length-append (linesOf recs) [], all-lines-long recs (g .wide)) in
       let many : recordsIn whole-file ≡ length recs = omega arith in
-      let right : (i : ℕ) → i < recordsIn whole-file → lineAnswer whole-file i .code ≡ 0 = λ i h. line-right-exactly whole-file i .1 (right-there i (omega arith)) in
+      let right : (i : ℕ) → i < recordsIn whole-file → lineAnswer known whole-file i .code ≡ 0 = λ i h. line-right-exactly known whole-file i .1 (right-there i (omega arith)) in
       let counts : totalsOf recs ≡ totalsOver whole-file (recordsIn whole-file) = rw many (sym (totals-there recs [] (g .wide))) in
-      ap fileAnswer (sym (append-nil (linesOf recs)))
-      ∙ sym (outcome-exactly whole-file (passed (totalsOf recs)) .0 (no-break (omega arith) (omega (arith, g .few)) right (ap passed counts)))
+      ap (fileAnswer known) (sym (append-nil (linesOf recs)))
+      ∙ sym (outcome-exactly known whole-file (passed (totalsOf recs)) .0 (no-break (omega arith) (omega (arith, g .few)) right (ap passed counts)))
 
 -- ---- so a file is accepted exactly if it is made of such records
-pub made-exactly : (file : List ℕ) → (fileAnswer file .code ≡ 0) ↔ MadeOfGood file
-made-exactly file = (made, λ m. ap (λ (f : List ℕ). fileAnswer f .code) (m .bytes) ∙ ap (λ (a : FileAnswer). a .code) (file-passes (m .recs) (m .good)))
+pub made-exactly : (known : Known) (file : List ℕ) → (fileAnswer known file .code ≡ 0) ↔ MadeOfGood known file
+made-exactly known file = (made, λ m. ap (λ (f : List ℕ). fileAnswer known f .code) (m .bytes) ∙ ap (λ (a : FileAnswer). a .code) (file-passes (m .recs) (m .good)))
   where
     n : ℕ
     n = recordsIn file
 
-    made : fileAnswer file .code ≡ 0 → MadeOfGood file
+    made : fileAnswer known file .code ≡ 0 → MadeOfGood known file
     made z =
-        let good = good-file file z in
-        let long : length file ≡ n * 401 = whole file z in
+        let good = good-file known file z in
+        let long : length file ≡ n * 401 = whole known file z in
         let many = length-upTo (recordAt file) n in
         let nth : (i : ℕ) → i < n → getD (records file n) i [] ≡ recordAt file i = λ i h. upTo-nth (recordAt file) n i [] h in
         let id : (i : ℕ) → i < n → fieldOf (getD (records file n) i []) 1 ≡ idAt file i = λ i h. ap (λ (r : List ℕ). fieldOf r 1) (nth i h) ∙ sym (id-is file i (omega arith)) in
         record {
           recs = records file n;
           good = record {
-            few = omega (arith, all-right file z .few);
+            few = omega (arith, all-right known file z .few);
             wide = λ i h. ap length (nth i (omega arith)) ∙ good .wide i (omega arith);
-            keeps = λ i h. ap (λ (r : List ℕ). noneBroken (table false r)) (nth i (omega arith)) ∙ good .keeps i (omega arith);
+            keeps = λ i h. ap (λ (r : List ℕ). noneBroken (table (inFile known) r)) (nth i (omega arith)) ∙ good .keeps i (omega arith);
             apart = λ i j l h e. good .apart i j l (omega arith) (sym (id i (omega arith)) ∙ e ∙ id j (omega arith));
           };
           bytes = good .bytes;

@@ -7,4 +7,5 @@ pub mod FirstBreak
 pub mod RecordList
 pub mod Codes
 pub mod GoodFile
+pub mod AnyPostcode
 pub mod PrintedLines

@@ -15,7 +15,8 @@ use Rattle.text.specs.Answers.{answer, accepted, orElse}
 use Rattle.text.specs.Lists.{sameBytes}
 use Rattle.text.proofs.Booleans.{clash}
 use Rattle.text.proofs.Lists.{same-exactly}
-use Rattle.record.specs.Rules.{recordAnswer}
+use Rattle.record.specs.Rules.{inFile, recordAnswer}
+use Rattle.psc.specs.Table.{Known}
 use Rattle.posting.specs.File.{recordAt, idAt, lineEnds, repeats, lineAnswer}
 use Rattle.posting.specs.Outcomes.{Ended, Repeated, LineOutcome, ends-wrong, breaks-table, repeats-earlier, right, RightLine}
 
@@ -57,25 +58,25 @@ repeats-exactly file i (suc n) = go (sameBytes (idAt file n) (idAt file i)) refl
     )
 
 -- ---- the answer to record i
-pub line-outcome : (file : List ℕ) (i : ℕ) → LineOutcome file i (lineAnswer file i)
+pub line-outcome : (known : Known) (file : List ℕ) (i : ℕ) → LineOutcome known file i (lineAnswer known file i)
 unfolding lineAnswer orElse
-line-outcome file i = go (lineEnds file i) refl (eqb (recordAnswer false (recordAt file i) .code) 0) refl (repeats file i i) refl
+line-outcome known file i = go (lineEnds file i) refl (eqb (recordAnswer (inFile known) (recordAt file i) .code) 0) refl (repeats file i i) refl
   where
-    go : (s : Bool) → lineEnds file i ≡ s → (t : Bool) → eqb (recordAnswer false (recordAt file i) .code) 0 ≡ t → (u : Bool) → repeats file i i ≡ u
-        → LineOutcome file i (cond s (cond t (cond u (answer 2 1) accepted) (recordAnswer false (recordAt file i))) (answer 212 0))
+    go : (s : Bool) → lineEnds file i ≡ s → (t : Bool) → eqb (recordAnswer (inFile known) (recordAt file i) .code) 0 ≡ t → (u : Bool) → repeats file i i ≡ u
+        → LineOutcome known file i (cond s (cond t (cond u (answer 2 1) accepted) (recordAnswer (inFile known) (recordAt file i))) (answer 212 0))
     go false e t f u g = ends-wrong (λ x. clash (ended-exactly file i .1 x) e) refl
     go true e false f u g = breaks-table (ended-exactly file i .0 e) (eqb-false _ 0 f) refl
     go true e true f true g = repeats-earlier (ended-exactly file i .0 e) (eqb-true _ 0 f) (repeats-exactly file i i .0 g) refl
     go true e true f false g = right (ended-exactly file i .0 e) (eqb-true _ 0 f) (λ x. clash (repeats-exactly file i i .1 x) g) refl
 
 -- ---- code 0
-pub line-right-exactly : (file : List ℕ) (i : ℕ) → (lineAnswer file i .code ≡ 0) ↔ RightLine file i
-line-right-exactly file i = go (line-outcome file i)
+pub line-right-exactly : (known : Known) (file : List ℕ) (i : ℕ) → (lineAnswer known file i .code ≡ 0) ↔ RightLine known file i
+line-right-exactly known file i = go (line-outcome known file i)
   where
     not-coded : {a : Answer} {c p : ℕ} → a ≡ answer c p → (c ≡ 0 → ⊥) → a .code ≡ 0 → ⊥
     not-coded e n z = n (sym (ap (λ (x : Answer). x .code) e) ∙ z)
 
-    go : {a : Answer} → LineOutcome file i a → (a .code ≡ 0) ↔ RightLine file i
+    go : {a : Answer} → LineOutcome known file i a → (a .code ≡ 0) ↔ RightLine known file i
     go (ends-wrong n e) = (λ z. absurd (not-coded e (λ q. omega arith) z), λ r. absurd (n (r .ended)))
     go (breaks-table d n e) = (λ z. absurd (n (rw e at z)), λ r. absurd (n (r .table)))
     go (repeats-earlier d t r e) = (λ z. absurd (not-coded e (λ q. omega arith) z), λ x. absurd (x .fresh (r .earlier) (r .before) (r .same)))

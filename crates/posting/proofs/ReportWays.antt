@@ -2,27 +2,34 @@
 -- Assumes nothing.
 use Prim.Native.Nat.{ℕ, suc, _+_, _-_, _*_, _≤_, _<_}
 use mathlib.Core.Path.{_≡_, refl, sym, ap, _∙_}
-use mathlib.Core.Bool.{true, false}
+use mathlib.Core.Bool.{Bool, true, false, not}
 use mathlib.Core.List.{List, [], _∷_, _++_, append-assoc}
 use native.Mathlib.Nat.{add-assoc, add-zero}
 use native.Mathlib.Numerals.{add-one}
 use native.Mathlib.Omega.{arith}
-use borrow.Author.Tests.{lt-ltb, le-ltb, le-leb, lt-leb}
+use borrow.Author.Tests.{lt-ltb, le-ltb, le-leb, lt-leb, not-true, not-false}
 use borrow.Rule.Slice.PartMut.{putMid}
 use lib.Dec.{leb}
 use lib.ListN.{length, getD, take, drop, set, length-append, length-take, length-drop, take-append-drop}
 use lib.Seq.{take-at, take-append-seam, drop-at, set-split, drop-drop, length-take-le}
 use Rattle.text.specs.Answers.{answer, accepted}
+use Rattle.text.specs.Bytes.{every}
 use Rattle.text.specs.Lists.{overlay}
 use Rattle.text.specs.Numbers.{digits, decimalPlaces, decimalPlacesUpTo, decimal}
 use Rattle.text.specs.Texts.{bytes}
 use Rattle.text.proofs.Lists.{step, ended}
 use Rattle.text.proofs.Numbers.{length-digits, digits-put}
 use Rattle.text.proofs.Decimals.{decimal-places-within}
+use Rattle.psc.specs.Table.{risesFrom, rightTable}
+use Rattle.psc.specs.declared.Reading.{Reading}
+use Rattle.psc.specs.Search.{found}
+use Rattle.psc.specs.Calls.{TableRead}
+use Rattle.psc.proofs.SearchLaws.{found-is-holds}
+use Rattle.psc.proofs.ReadLaws.{read-refused, read-right, read-front}
 use Rattle.posting.specs.declared.FileAnswer.{FileAnswer}
 use Rattle.posting.specs.declared.Reported.{Reported}
-use Rattle.posting.specs.File.{totalsOver, breakFrom, fileAnswer, refused}
-use Rattle.posting.specs.Report.{numbersOf, behind, line, reportOf, Report, longestLine, WholeLine, inputAnswer}
+use Rattle.posting.specs.File.{totalsOver, breakFrom, fileAnswer, refused, tableRefused}
+use Rattle.posting.specs.Report.{numbersOf, behind, line, reportOf, Report, longestLine, WholeLine, inputAnswer, underText}
 
 -- ---- one number on
 line-step : (ns : List ℕ) (i : ℕ) → i < length ns → line (drop i ns) ≡ decimal (getD ns i 0) ++ behind (drop (i + 1) ns) ∷ line (drop (i + 1) ns)
@@ -166,24 +173,47 @@ line-front a t r w = w .counts ∙ sym (ap length (w .bytes))
 pub line-within : (a : FileAnswer) (t : List ℕ) (r : Reported) → WholeLine a r t → r .length ≤ length t
 line-within a t r w = omega (arith, line-front a t r w, length-take (r .length) t)
 
--- ---- check_input
-pub input-long : (input : List ℕ) (r : FileAnswer) → 64160 < length input → r ≡ refused 213 0 0 → r ≡ inputAnswer input
-unfolding inputAnswer
-input-long input r h e = e ∙ rw (lt-ltb 64160 (length input) h)
+-- ---- the line under a table that is given as text, of any answer by a table: a program reads it into a lent one of enough places
+module _ (answer : List ℕ → FileAnswer) (text before table : List ℕ) (read : Reading) (told : TableRead text before read table) (line line′ : List ℕ) (r : Reported)
+    (room : (16000 ≤ length before) × (longestLine ≤ length line)) where
+  pub text-refused : (a : FileAnswer) → (read .answer .code ≡ 0 → ⊥) → a ≡ tableRefused → Report a line r line′ → WholeLine (underText text answer) r line′
+  text-refused a n e p = rw (read-refused text before read table told (room .0) n, ← e) (whole-line a line line′ r (room .1) p)
 
-pub input-taken : (input : List ℕ) (r : FileAnswer) → length input ≤ 64160 → r ≡ fileAnswer input → r ≡ inputAnswer input
+  pub text-reported : read .answer .code ≡ 0 → Report (answer (take (read .entries) table)) line r line′ → WholeLine (underText text answer) r line′
+  text-reported z p =
+      rw (read-right text before read table told (room .0) z, ← read-front text before read table told (room .0) z) (whole-line _ line line′ r (room .1) p)
+
+-- ---- check_input
+pub input-wrong-table : (psc input : List ℕ) (b : Bool) (r : FileAnswer) → b ≡ rightTable psc → not b ≡ true → r ≡ tableRefused → r ≡ inputAnswer psc input
 unfolding inputAnswer
-input-taken input r h e = e ∙ rw (le-ltb 64160 (length input) h)
+input-wrong-table psc input b r e n g = g ∙ rw (← e, not-true b n)
+
+module _ (psc input : List ℕ) (b : Bool) (r : FileAnswer) (e : b ≡ rightTable psc) (n : not b ≡ false) where
+  right : rightTable psc ≡ true
+  right = sym e ∙ not-false b n
+
+  pub input-long : 64160 < length input → r ≡ refused 213 0 0 → r ≡ inputAnswer psc input
+  unfolding inputAnswer
+  input-long h g = g ∙ rw (right, lt-ltb 64160 (length input) h)
+
+  pub input-taken : length input ≤ 64160 → r ≡ fileAnswer (found psc) input → r ≡ inputAnswer psc input
+  unfolding inputAnswer
+  input-taken h g = g ∙ rw (found-is-holds psc right, right, le-ltb 64160 (length input) h)
 
 -- ---- the whole outputs that the paper gives
-pub no-input : reportOf (inputAnswer []) ≡ bytes "0 0 0 0 0 0 0" ++ 10 ∷ []
-unfolding inputAnswer fileAnswer breakFrom totalsOver line digits decimalPlacesUpTo bytes
+pub no-input : reportOf (inputAnswer [] []) ≡ bytes "0 0 0 0 0 0 0" ++ 10 ∷ []
+unfolding risesFrom every rightTable inputAnswer fileAnswer breakFrom totalsOver line digits decimalPlacesUpTo bytes
 no-input = refl
 
-pub one-byte : reportOf (inputAnswer (65 ∷ [])) ≡ bytes "211 0 0 0 0 0 0" ++ 10 ∷ []
-unfolding inputAnswer fileAnswer line digits decimalPlacesUpTo bytes
+pub one-byte : reportOf (inputAnswer [] (65 ∷ [])) ≡ bytes "211 0 0 0 0 0 0" ++ 10 ∷ []
+unfolding risesFrom every rightTable inputAnswer fileAnswer line digits decimalPlacesUpTo bytes
 one-byte = refl
 
-pub long-input : (input : List ℕ) → 64160 < length input → reportOf (inputAnswer input) ≡ bytes "213 0 0 0 0 0 0" ++ 10 ∷ []
+pub long-input : (psc input : List ℕ) → rightTable psc ≡ true → 64160 < length input → reportOf (inputAnswer psc input) ≡ bytes "213 0 0 0 0 0 0" ++ 10 ∷ []
 unfolding line digits decimalPlacesUpTo bytes
-long-input input h = rw (← input-long input (refused 213 0 0) h refl)
+long-input psc input right h = rw (← input-long psc input true (refused 213 0 0) (sym right) refl h refl)
+
+-- whatever the input is
+pub wrong-table : (psc input : List ℕ) → rightTable psc ≡ false → reportOf (inputAnswer psc input) ≡ bytes "238 0 0 0 0 0 0" ++ 10 ∷ []
+unfolding line digits decimalPlacesUpTo bytes
+wrong-table psc input wrong = rw (← input-wrong-table psc input false tableRefused (sym wrong) refl refl)

@@ -13,7 +13,10 @@ use lib.ListN.{length, getD, take, drop}
 use Rattle.text.specs.declared.Answer.{Answer}
 use Rattle.text.specs.Answers.{answer, accepted, orElse}
 use Rattle.text.specs.Lists.{sameBytes}
-use Rattle.record.specs.Rules.{recordAnswer}
+use Rattle.psc.specs.Table.{rightTable, wrongTable, Known}
+use Rattle.psc.specs.Search.{found}
+use Rattle.psc.proofs.SearchLaws.{found-is-holds}
+use Rattle.record.specs.Rules.{inFile, recordAnswer}
 use Rattle.posting.specs.declared.FileAnswer.{FileAnswer}
 use Rattle.posting.specs.declared.Totals.{Totals}
 use Rattle.index.specs.Index.{keyAt, seek, Put}
@@ -21,7 +24,7 @@ use Rattle.index.specs.Laws.{Indexed}
 use Rattle.index.proofs.Keys.{key-of-record}
 use Rattle.index.proofs.Slots.{indexed-more, length-noting}
 use Rattle.posting.specs.Slots.{RoomFor, NowNoted, LineAnswered, ToCheck}
-use Rattle.posting.specs.File.{recordAt, idAt, lineEnds, repeats, lineAnswer, noTotals, withRecord, totalsOver, refused, passed, lineOr, breakFrom, recordsIn, fileAnswer}
+use Rattle.posting.specs.File.{recordAt, idAt, lineEnds, repeats, lineAnswer, noTotals, withRecord, totalsOver, refused, passed, lineOr, breakFrom, recordsIn, fileAnswer, tableRefused, fileCheck}
 
 pub refused-is : (c n p : ℕ) (t : Totals) → t ≡ noTotals → record { code = c; number = n; place = p; totals = t } ≡ refused c n p
 refused-is c n p t e = rw e
@@ -43,100 +46,111 @@ repeats-seek file i (suc n) = rw (repeats-seek file i n, same-key file i n) (go 
     go true = rw (ne-eqb (suc n) 0 (λ e. omega arith))
     go false = refl
 
-module _ (file : List ℕ) (i : ℕ) (table : List ℕ) (t : ℕ) (after : List ℕ) (put : Put table file 0 i t after) (known : RoomFor file i table) where
+module _ (file : List ℕ) (i : ℕ) (table : List ℕ) (t : ℕ) (after : List ℕ) (put : Put table file 0 i t after) (room : RoomFor file i table) where
   pub repeated-is : not (eqb t 0) ≡ repeats file i i
-  repeated-is = rw (put .before, known .noted .finds (keyAt file 0 i)) (sym (repeats-seek file i i))
+  repeated-is = rw (put .before, room .noted .finds (keyAt file 0 i)) (sym (repeats-seek file i i))
 
   pub now-noted : i < 1000 → i * 401 + 401 ≤ length file → NowNoted file i table after
   now-noted low whole =
       rw (put .notes)
       record {
-        noted = indexed-more file 0 i table (known .noted) (known .room) (omega arith) (key-of-record file 0 i (omega arith) whole);
+        noted = indexed-more file 0 i table (room .noted) (room .room) (omega arith) (key-of-record file 0 i (omega arith) whole);
         long = length-noting table file 0 i;
       }
 
 -- ---- line_answer
-module _ (file : List ℕ) (i : ℕ) where
-  pub line-open : not (eqb (getD file (i * 401 + 399) 0) 13 && eqb (getD file (i * 401 + 400) 0) 10) ≡ true → answer 212 0 ≡ lineAnswer file i
+module _ (known : Known) (file : List ℕ) (i : ℕ) where
+  pub line-open : not (eqb (getD file (i * 401 + 399) 0) 13 && eqb (getD file (i * 401 + 400) 0) 10) ≡ true → answer 212 0 ≡ lineAnswer known file i
   unfolding lineAnswer
   line-open n = rw (not-true (lineEnds file i) n)
 
   module _ (ended : not (eqb (getD file (i * 401 + 399) 0) 13 && eqb (getD file (i * 401 + 400) 0) 10) ≡ false) (a : Answer)
-      (ea : a ≡ recordAnswer false (take (i * 401 + 399 - i * 401) (drop (i * 401) file))) where
-    here : recordAnswer false (recordAt file i) ≡ a
-    here = sym (ea ∙ ap (recordAnswer false) (from-start file i 399))
+      (ea : a ≡ recordAnswer (inFile known) (take (i * 401 + 399 - i * 401) (drop (i * 401) file))) where
+    here : recordAnswer (inFile known) (recordAt file i) ≡ a
+    here = sym (ea ∙ ap (recordAnswer (inFile known)) (from-start file i 399))
 
-    pub line-breaks : (a .code ≡ 0 → ⊥) → a ≡ lineAnswer file i
+    pub line-breaks : (a .code ≡ 0 → ⊥) → a ≡ lineAnswer known file i
     unfolding lineAnswer orElse
     line-breaks n = rw (not-false (lineEnds file i) ended, here, ne-eqb (a .code) 0 n)
 
-    pub line-repeats : (b : Bool) → a .code ≡ 0 → b ≡ repeats file i i → b ≡ true → answer 2 1 ≡ lineAnswer file i
+    pub line-repeats : (b : Bool) → a .code ≡ 0 → b ≡ repeats file i i → b ≡ true → answer 2 1 ≡ lineAnswer known file i
     unfolding lineAnswer orElse
     line-repeats b z e t = rw (not-false (lineEnds file i) ended, here, eq-eqb (a .code) 0 z, ← e, t)
 
-    pub line-passes : (b : Bool) → a .code ≡ 0 → b ≡ repeats file i i → b ≡ false → accepted ≡ lineAnswer file i
+    pub line-passes : (b : Bool) → a .code ≡ 0 → b ≡ repeats file i i → b ≡ false → accepted ≡ lineAnswer known file i
     unfolding lineAnswer orElse
     line-passes b z e t = rw (not-false (lineEnds file i) ended, here, eq-eqb (a .code) 0 z, ← e, t)
 
 -- ---- check
-pub file-odd : (file : List ℕ) (r : FileAnswer) → (length file % 401 ≡ 0 → ⊥) → r ≡ refused 211 0 0 → r ≡ fileAnswer file
+pub file-odd : (known : Known) (file : List ℕ) (r : FileAnswer) → (length file % 401 ≡ 0 → ⊥) → r ≡ refused 211 0 0 → r ≡ fileAnswer known file
 unfolding fileAnswer
-file-odd file r n e = e ∙ rw (ne-eqb (length file % 401) 0 n)
+file-odd known file r n e = e ∙ rw (ne-eqb (length file % 401) 0 n)
 
-pub file-long : (file : List ℕ) (r : FileAnswer) → length file % 401 ≡ 0 → 999 < length file / 401 → r ≡ refused 213 0 0 → r ≡ fileAnswer file
+pub file-long : (known : Known) (file : List ℕ) (r : FileAnswer) → length file % 401 ≡ 0 → 999 < length file / 401 → r ≡ refused 213 0 0 → r ≡ fileAnswer known file
 unfolding fileAnswer
-file-long file r n h e = e ∙ rw (eq-eqb (length file % 401) 0 n, lt-leb (length file / 401) 999 h)
+file-long known file r n h e = e ∙ rw (eq-eqb (length file % 401) 0 n, lt-leb (length file / 401) 999 h)
+
+-- under a lent table: 238, or what is answered by looking up in it, which is what it holds
+pub file-wrong-table : (psc file : List ℕ) (b : Bool) (r : FileAnswer) → b ≡ rightTable psc → not b ≡ true → r ≡ tableRefused → r ≡ fileCheck psc file
+unfolding fileCheck
+file-wrong-table psc file b r e n g = g ∙ rw (← e, not-true b n)
+
+pub file-looked-up : (psc file : List ℕ) (b : Bool) (r : FileAnswer) → b ≡ rightTable psc → not b ≡ false → r ≡ fileAnswer (found psc) file → r ≡ fileCheck psc file
+unfolding fileCheck
+file-looked-up psc file b r e n g =
+    let right : rightTable psc ≡ true = sym e ∙ not-false b n in
+    g ∙ rw (found-is-holds psc right, right)
 
 abbrev pub goodFor : List ℕ → FileAnswer
 goodFor file = passed (totalsOver file (recordsIn file))
 
 -- what the records from i on give is what all give
-pub record Unbroken (file : List ℕ) (i : ℕ) : Type 0 where
-  pub same : breakFrom file (goodFor file) (length file / 401 - i) i ≡ breakFrom file (goodFor file) (length file / 401) 0
+pub record Unbroken (known : Known) (file : List ℕ) (i : ℕ) : Type 0 where
+  pub same : breakFrom known file (goodFor file) (length file / 401 - i) i ≡ breakFrom known file (goodFor file) (length file / 401) 0
 
-pub unbroken-start : (file : List ℕ) → Unbroken file 0
-unbroken-start file = record { same = rw (sub-zero (length file / 401)) }
+pub unbroken-start : (known : Known) (file : List ℕ) → Unbroken known file 0
+unbroken-start known file = record { same = rw (sub-zero (length file / 401)) }
 
-step-on : (file : List ℕ) (i : ℕ) → i < length file / 401
-    → breakFrom file (goodFor file) (length file / 401 - i) i ≡ lineOr file i (breakFrom file (goodFor file) (length file / 401 - (i + 1)) (i + 1))
+step-on : (known : Known) (file : List ℕ) (i : ℕ) → i < length file / 401
+    → breakFrom known file (goodFor file) (length file / 401 - i) i ≡ lineOr known file i (breakFrom known file (goodFor file) (length file / 401 - (i + 1)) (i + 1))
 unfolding breakFrom
-step-on file i h = let e : length file / 401 - i ≡ suc (length file / 401 - (i + 1)) = omega arith in rw e
+step-on known file i h = let e : length file / 401 - i ≡ suc (length file / 401 - (i + 1)) = omega arith in rw e
 
-pub file-on : (file : List ℕ) (i : ℕ) (a : Answer) → i < length file / 401 → Unbroken file i → a ≡ lineAnswer file i → a .code ≡ 0 → Unbroken file (i + 1)
-file-on file i a h known ea z = record { same = rw (step-on file i h, ← ea, eq-eqb (a .code) 0 z) at (known .same) }
+pub file-on : (known : Known) (file : List ℕ) (i : ℕ) (a : Answer) → i < length file / 401 → Unbroken known file i → a ≡ lineAnswer known file i → a .code ≡ 0 → Unbroken known file (i + 1)
+file-on known file i a h so ea z = record { same = rw (step-on known file i h, ← ea, eq-eqb (a .code) 0 z) at (so .same) }
 
-module _ (file : List ℕ) (m : length file % 401 ≡ 0) (l : length file / 401 ≤ 999) where
-  whole : breakFrom file (goodFor file) (length file / 401) 0 ≡ fileAnswer file
+module _ (known : Known) (file : List ℕ) (m : length file % 401 ≡ 0) (l : length file / 401 ≤ 999) where
+  whole : breakFrom known file (goodFor file) (length file / 401) 0 ≡ fileAnswer known file
   unfolding fileAnswer
   whole = rw (eq-eqb (length file % 401) 0 m, le-leb (length file / 401) 999 l)
 
-  pub file-breaks : (i : ℕ) (a : Answer) (r : FileAnswer) → i < length file / 401 → Unbroken file i → a ≡ lineAnswer file i → (a .code ≡ 0 → ⊥)
-      → r ≡ refused (a .code) (i + 1) (a .place) → r ≡ fileAnswer file
-  file-breaks i a r h known ea n e = e ∙ (rw (step-on file i h, ← ea, ne-eqb (a .code) 0 n) at (known .same)) ∙ whole
+  pub file-breaks : (i : ℕ) (a : Answer) (r : FileAnswer) → i < length file / 401 → Unbroken known file i → a ≡ lineAnswer known file i → (a .code ≡ 0 → ⊥)
+      → r ≡ refused (a .code) (i + 1) (a .place) → r ≡ fileAnswer known file
+  file-breaks i a r h so ea n e = e ∙ (rw (step-on known file i h, ← ea, ne-eqb (a .code) 0 n) at (so .same)) ∙ whole
 
-  pub file-passes : (i : ℕ) (t : Totals) → length file / 401 ≤ i → i ≤ length file / 401 → Unbroken file i → t ≡ totalsOver file i → passed t ≡ fileAnswer file
+  pub file-passes : (i : ℕ) (t : Totals) → length file / 401 ≤ i → i ≤ length file / 401 → Unbroken known file i → t ≡ totalsOver file i → passed t ≡ fileAnswer known file
   unfolding breakFrom
-  file-passes i t h k known et =
+  file-passes i t h k so et =
       let e : i ≡ length file / 401 = omega arith in
       let none : length file / 401 - i ≡ 0 = omega arith in
-      rw (et, e) ((rw none at (known .same)) ∙ whole)
+      rw (et, e) ((rw none at (so .same)) ∙ whole)
 
 -- the records before i are accepted, and noted in the lent table
-pub record SoFar (file : List ℕ) (i : ℕ) (table₀ table : List ℕ) : Type 0 where
-  pub unbroken : Unbroken file i
+pub record SoFar (known : Known) (file : List ℕ) (i : ℕ) (table₀ table : List ℕ) : Type 0 where
+  pub unbroken : Unbroken known file i
   pub noted : Indexed file 0 i table
   pub slots : length table ≡ length table₀
 
-pub so-far-none : (file table : List ℕ) → ToCheck file table → SoFar file 0 table table
-so-far-none file table known = record { unbroken = unbroken-start file; noted = known .none; slots = refl }
+pub so-far-none : (known : Known) (file table : List ℕ) → ToCheck file table → SoFar known file 0 table table
+so-far-none known file table to = record { unbroken = unbroken-start known file; noted = to .none; slots = refl }
 
-pub so-far-on : (file : List ℕ) (i : ℕ) (table₀ table after : List ℕ) (a : Answer) → SoFar file i table₀ table → LineAnswered file i table after a → a .code ≡ 0 → i < length file / 401
-    → SoFar file (i + 1) table₀ after
-so-far-on file i table₀ table after a known answered z h =
+pub so-far-on : (known : Known) (file : List ℕ) (i : ℕ) (table₀ table after : List ℕ) (a : Answer) → SoFar known file i table₀ table → LineAnswered known file i table after a → a .code ≡ 0 → i < length file / 401
+    → SoFar known file (i + 1) table₀ after
+so-far-on known file i table₀ table after a so answered z h =
     record {
-      unbroken = file-on file i a h (known .unbroken) (answered .answers) z;
+      unbroken = file-on known file i a h (so .unbroken) (answered .answers) z;
       noted = answered .notes z .noted;
-      slots = answered .notes z .long ∙ known .slots;
+      slots = answered .notes z .long ∙ so .slots;
     }
 
 pub record-with : (file : List ℕ) (i : ℕ) (t r : Totals) → r ≡ withRecord t (take (i * 401 + 399 - i * 401) (drop (i * 401) file)) → r ≡ withRecord t (recordAt file i)

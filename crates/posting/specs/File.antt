@@ -1,4 +1,5 @@
--- "A whole file": records of 401 bytes, the first break, and the totals. Records are counted from 0 here, and named from 1 in answers.
+-- "A whole file": records of 401 bytes, the first break, and the totals. Records are counted from 0 here, and named from 1 in answers. Which postcodes
+-- exist is for the record's table alone, and is passed on to it.
 -- Assumes nothing.
 use Prim.Native.Nat.{ℕ, zero, suc, _+_, _-_, _*_, _/_, _%_}
 use mathlib.Core.Bool.{Bool, true, false, cond, _&&_, _||_}
@@ -8,6 +9,7 @@ use lib.Dec.{eqb, leb}
 use Rattle.text.specs.declared.Answer.{Answer}
 use Rattle.text.specs.Answers.{answer, accepted, orElse}
 use Rattle.text.specs.Lists.{sameBytes}
+use Rattle.psc.specs.Table.{rightTable, wrongTable, Known, holds}
 use Rattle.layout.specs.Layout.{fieldOf}
 use Rattle.fields.specs.declared.amounts.Hellers.{Hellers}
 use Rattle.fields.specs.declared.amounts.MoneyReading.{MoneyReading}
@@ -16,7 +18,7 @@ use Rattle.fields.specs.declared.others.StatusReading.{StatusReading}
 use Rattle.fields.specs.declared.others.StatusReading.the-variants as Status
 use Rattle.fields.specs.Amounts.{readMoney}
 use Rattle.fields.specs.Others.{readStatus}
-use Rattle.record.specs.Rules.{recordAnswer}
+use Rattle.record.specs.Rules.{inFile, recordAnswer}
 use Rattle.posting.specs.declared.FileAnswer.{FileAnswer}
 use Rattle.posting.specs.declared.Totals.{Totals}
 
@@ -40,10 +42,10 @@ repeats file i zero = false
 repeats file i (suc n) = sameBytes (idAt file n) (idAt file i) || repeats file i n
 
 -- ---- what record i breaks: 212 if the line end is wrong, the table, then 2 if an earlier record has the same identifier
-unfoldable pub lineAnswer : List ℕ → ℕ → Answer
-lineAnswer file i =
+unfoldable pub lineAnswer : Known → List ℕ → ℕ → Answer
+lineAnswer known file i =
     cond (lineEnds file i)
-    (orElse (recordAnswer false (recordAt file i)) (cond (repeats file i i) (answer 2 1) accepted))
+    (orElse (recordAnswer (inFile known) (recordAt file i)) (cond (repeats file i i) (answer 2 1) accepted))
     (answer 212 0)
 
 -- ---- totals
@@ -92,22 +94,29 @@ abbrev pub passed : Totals → FileAnswer
 passed t = record { code = 0; number = 0; place = 0; totals = t }
 
 -- record i breaks a rule, or else what comes behind
-abbrev pub lineOr : List ℕ → ℕ → FileAnswer → FileAnswer
-lineOr file i behind =
-    cond (eqb (lineAnswer file i .code) 0) behind (refused (lineAnswer file i .code) (i + 1) (lineAnswer file i .place))
+abbrev pub lineOr : Known → List ℕ → ℕ → FileAnswer → FileAnswer
+lineOr known file i behind =
+    cond (eqb (lineAnswer known file i .code) 0) behind (refused (lineAnswer known file i .code) (i + 1) (lineAnswer known file i .place))
 
 -- the first break in n records from i on, or else the answer `good`
-unfoldable pub breakFrom : List ℕ → FileAnswer → ℕ → ℕ → FileAnswer
-breakFrom file good zero i = good
-breakFrom file good (suc n) i = lineOr file i (breakFrom file good n (i + 1))
+unfoldable pub breakFrom : Known → List ℕ → FileAnswer → ℕ → ℕ → FileAnswer
+breakFrom known file good zero i = good
+breakFrom known file good (suc n) i = lineOr known file i (breakFrom known file good n (i + 1))
 
 abbrev pub recordsIn : List ℕ → ℕ
 recordsIn file = length file / 401
 
-unfoldable pub fileAnswer : List ℕ → FileAnswer
-fileAnswer file =
+unfoldable pub fileAnswer : Known → List ℕ → FileAnswer
+fileAnswer known file =
     cond (eqb (length file % 401) 0)
     (cond (leb (recordsIn file) 999)
-    (breakFrom file (passed (totalsOver file (recordsIn file))) (recordsIn file) 0)
+    (breakFrom known file (passed (totalsOver file (recordsIn file))) (recordsIn file) 0)
     (refused 213 0 0))
     (refused 211 0 0)
+
+-- ---- what the file check answers under a lent table of postcodes: 238 first
+abbrev pub tableRefused : FileAnswer
+tableRefused = refused (wrongTable .code) 0 (wrongTable .place)
+
+unfoldable pub fileCheck : List ℕ → List ℕ → FileAnswer
+fileCheck psc file = cond (rightTable psc) (fileAnswer (holds psc) file) tableRefused

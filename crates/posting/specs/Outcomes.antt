@@ -7,7 +7,8 @@ use mathlib.Core.List.{List}
 use lib.ListN.{length, getD}
 use Rattle.text.specs.declared.Answer.{Answer}
 use Rattle.text.specs.Answers.{answer, accepted}
-use Rattle.record.specs.Rules.{recordAnswer}
+use Rattle.psc.specs.Table.{Known}
+use Rattle.record.specs.Rules.{inFile, recordAnswer}
 use Rattle.posting.specs.declared.FileAnswer.{FileAnswer}
 use Rattle.posting.specs.File.{recordAt, idAt, lineAnswer, totalsOver, refused, passed, recordsIn}
 
@@ -24,37 +25,37 @@ pub record Repeated (file : List ℕ) (i n : ℕ) : Type 0 where
   pub same : idAt file earlier ≡ idAt file i
 
 -- 212 if the line end is wrong (place 0), the record's table, then 2 (place 1) if an earlier record has the same identifier
-pub data LineOutcome (file : List ℕ) (i : ℕ) (a : Answer) : Type 0 where
-  ends-wrong : (Ended file i → ⊥) → a ≡ answer 212 0 → LineOutcome file i a
-  breaks-table : Ended file i → (recordAnswer false (recordAt file i) .code ≡ 0 → ⊥) → a ≡ recordAnswer false (recordAt file i) → LineOutcome file i a
-  repeats-earlier : Ended file i → recordAnswer false (recordAt file i) .code ≡ 0 → Repeated file i i → a ≡ answer 2 1 → LineOutcome file i a
-  right : Ended file i → recordAnswer false (recordAt file i) .code ≡ 0 → (Repeated file i i → ⊥) → a ≡ accepted → LineOutcome file i a
+pub data LineOutcome (known : Known) (file : List ℕ) (i : ℕ) (a : Answer) : Type 0 where
+  ends-wrong : (Ended file i → ⊥) → a ≡ answer 212 0 → LineOutcome known file i a
+  breaks-table : Ended file i → (recordAnswer (inFile known) (recordAt file i) .code ≡ 0 → ⊥) → a ≡ recordAnswer (inFile known) (recordAt file i) → LineOutcome known file i a
+  repeats-earlier : Ended file i → recordAnswer (inFile known) (recordAt file i) .code ≡ 0 → Repeated file i i → a ≡ answer 2 1 → LineOutcome known file i a
+  right : Ended file i → recordAnswer (inFile known) (recordAt file i) .code ≡ 0 → (Repeated file i i → ⊥) → a ≡ accepted → LineOutcome known file i a
 
 -- record i keeps every rule
-pub record RightLine (file : List ℕ) (i : ℕ) : Type 0 where
+pub record RightLine (known : Known) (file : List ℕ) (i : ℕ) : Type 0 where
   pub ended : Ended file i
-  pub table : recordAnswer false (recordAt file i) .code ≡ 0
+  pub table : recordAnswer (inFile known) (recordAt file i) .code ≡ 0
   pub fresh : (j : ℕ) → j < i → idAt file j ≡ idAt file i → ⊥
 
 -- record i keeps every rule but the last: 2 is its answer exactly then
-pub record Twice (file : List ℕ) (i : ℕ) : Type 0 where
+pub record Twice (known : Known) (file : List ℕ) (i : ℕ) : Type 0 where
   pub ended : Ended file i
-  pub table : recordAnswer false (recordAt file i) .code ≡ 0
+  pub table : recordAnswer (inFile known) (recordAt file i) .code ≡ 0
   pub repeated : Repeated file i i
 
 -- ---- the whole file
 -- First 211 if the length isn't a multiple of 401, then 213 if over 999 records; then the first break, with all totals zero; otherwise 0 and the totals.
-pub data FileOutcome (file : List ℕ) (a : FileAnswer) : Type 0 where
-  no-multiple : (length file % 401 ≡ 0 → ⊥) → a ≡ refused 211 0 0 → FileOutcome file a
-  too-many : length file % 401 ≡ 0 → 999 < recordsIn file → a ≡ refused 213 0 0 → FileOutcome file a
+pub data FileOutcome (known : Known) (file : List ℕ) (a : FileAnswer) : Type 0 where
+  no-multiple : (length file % 401 ≡ 0 → ⊥) → a ≡ refused 211 0 0 → FileOutcome known file a
+  too-many : length file % 401 ≡ 0 → 999 < recordsIn file → a ≡ refused 213 0 0 → FileOutcome known file a
   first-break : length file % 401 ≡ 0 → recordsIn file ≤ 999 → (i : ℕ) → i < recordsIn file
-      → ((j : ℕ) → j < i → lineAnswer file j .code ≡ 0) → (lineAnswer file i .code ≡ 0 → ⊥)
-      → a ≡ refused (lineAnswer file i .code) (i + 1) (lineAnswer file i .place) → FileOutcome file a
-  no-break : length file % 401 ≡ 0 → recordsIn file ≤ 999 → ((i : ℕ) → i < recordsIn file → lineAnswer file i .code ≡ 0)
-      → a ≡ passed (totalsOver file (recordsIn file)) → FileOutcome file a
+      → ((j : ℕ) → j < i → lineAnswer known file j .code ≡ 0) → (lineAnswer known file i .code ≡ 0 → ⊥)
+      → a ≡ refused (lineAnswer known file i .code) (i + 1) (lineAnswer known file i .place) → FileOutcome known file a
+  no-break : length file % 401 ≡ 0 → recordsIn file ≤ 999 → ((i : ℕ) → i < recordsIn file → lineAnswer known file i .code ≡ 0)
+      → a ≡ passed (totalsOver file (recordsIn file)) → FileOutcome known file a
 
 -- all rules are kept: code 0 is the answer exactly then
-pub record AllRight (file : List ℕ) : Type 0 where
+pub record AllRight (known : Known) (file : List ℕ) : Type 0 where
   pub multiple : length file % 401 ≡ 0
   pub few : recordsIn file ≤ 999
-  pub lines : (i : ℕ) → i < recordsIn file → RightLine file i
+  pub lines : (i : ℕ) → i < recordsIn file → RightLine known file i

@@ -6,12 +6,13 @@ use mathlib.Core.Bool.{true, false}
 use mathlib.Core.List.{List, [], _∷_, _++_, map}
 use lib.ListN.{length, getD, take, drop}
 use Rattle.text.specs.Lists.{joined}
+use Rattle.psc.specs.Table.{Known}
 use Rattle.layout.specs.Layout.{fieldOf}
 use Rattle.fields.specs.declared.amounts.MoneyReading.the-variants as Money
 use Rattle.fields.specs.declared.others.StatusReading.the-variants as Status
 use Rattle.fields.specs.Amounts.{readMoney}
 use Rattle.fields.specs.Others.{readStatus}
-use Rattle.record.specs.Rules.{table}
+use Rattle.record.specs.Rules.{inFile, table}
 use Rattle.record.specs.Outcomes.{noneBroken}
 use Rattle.posting.specs.File.{recordAt, idAt, lineOf, passed, fileAnswer}
 use Rattle.posting.specs.Sums.{live, cancelled, totalsOf}
@@ -51,24 +52,24 @@ linesOf recs = joined (map lineOf recs)
 
 -- Its n records, each with its line end, are the file. Each breaks no rule, and no two have the same identifier. Every record is counted as live or as
 -- cancelled, and the answer has the totals over them.
-pub record GoodFile (file : List ℕ) (n : ℕ) : Type 0 where
+pub record GoodFile (known : Known) (file : List ℕ) (n : ℕ) : Type 0 where
   pub bytes : file ≡ linesOf (records file n)
   pub wide : (i : ℕ) → i < n → length (recordAt file i) ≡ 399
-  pub keeps : (i : ℕ) → i < n → noneBroken (table false (recordAt file i)) ≡ true
+  pub keeps : (i : ℕ) → i < n → noneBroken (table (inFile known) (recordAt file i)) ≡ true
   pub apart : (i j : ℕ) → i < j → j < n → idAt file i ≡ idAt file j → ⊥
   pub reads : (i : ℕ) → i < n → Readable (recordAt file i)
   pub counts : length (live (records file n)) + length (cancelled (records file n)) ≡ n
-  pub answers : fileAnswer file ≡ passed (totalsOf (records file n))
+  pub answers : fileAnswer known file ≡ passed (totalsOf (records file n))
 
 -- ---- records that make such a file: at most 999, each of 399 bytes and breaking no rule, no two with the same identifier
-pub record GoodRecords (recs : List (List ℕ)) : Type 0 where
+pub record GoodRecords (known : Known) (recs : List (List ℕ)) : Type 0 where
   pub few : length recs ≤ 999
   pub wide : (i : ℕ) → i < length recs → length (getD recs i []) ≡ 399
-  pub keeps : (i : ℕ) → i < length recs → noneBroken (table false (getD recs i [])) ≡ true
+  pub keeps : (i : ℕ) → i < length recs → noneBroken (table (inFile known) (getD recs i [])) ≡ true
   pub apart : (i j : ℕ) → i < j → j < length recs → fieldOf (getD recs i []) 1 ≡ fieldOf (getD recs j []) 1 → ⊥
 
 -- a file that is made of them
-pub record MadeOfGood (file : List ℕ) : Type 0 where
+pub record MadeOfGood (known : Known) (file : List ℕ) : Type 0 where
   pub recs : List (List ℕ)
-  pub good : GoodRecords recs
+  pub good : GoodRecords known recs
   pub bytes : file ≡ linesOf recs

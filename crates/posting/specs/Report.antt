@@ -11,7 +11,9 @@ use Rattle.text.specs.Lists.{overlay}
 use Rattle.text.specs.Numbers.{decimal}
 use Rattle.posting.specs.declared.FileAnswer.{FileAnswer}
 use Rattle.posting.specs.declared.Reported.{Reported}
-use Rattle.posting.specs.File.{fileAnswer, refused}
+use Rattle.psc.specs.Table.{rightTable, holds}
+use Rattle.psc.specs.Text.{tableIn, rightText}
+use Rattle.posting.specs.File.{fileAnswer, refused, tableRefused}
 
 -- code, record, place, live, cancelled, cash on delivery in haléře, price specified in haléře
 abbrev pub numbersOf : FileAnswer → List ℕ
@@ -47,6 +49,10 @@ pub record WholeLine (a : FileAnswer) (r : Reported) (after : List ℕ) : Type 0
   pub counts : r .length ≡ length (reportOf a)
   pub bytes : take (r .length) after ≡ reportOf a
 
--- ---- the checking program takes at most 64,160 bytes
-unfoldable pub inputAnswer : List ℕ → FileAnswer
-inputAnswer input = cond (ltb 64160 (length input)) (refused 213 0 0) (fileAnswer input)
+-- ---- the checking program takes at most 64,160 bytes; 238 is ahead of its 213
+unfoldable pub inputAnswer : List ℕ → List ℕ → FileAnswer
+inputAnswer psc input = cond (rightTable psc) (cond (ltb 64160 (length input)) (refused 213 0 0) (fileAnswer (holds psc) input)) tableRefused
+
+-- ---- under a table that is given as text: 238 where it is otherwise written, else by its table
+abbrev pub underText : List ℕ → (List ℕ → FileAnswer) → FileAnswer
+underText text answer = cond (rightText text) (answer (tableIn text)) tableRefused

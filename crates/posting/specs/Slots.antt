@@ -5,6 +5,7 @@ use mathlib.Core.Path.{_≡_}
 use mathlib.Core.List.{List}
 use lib.ListN.{length}
 use Rattle.text.specs.declared.Answer.{Answer}
+use Rattle.psc.specs.Table.{Known}
 use Rattle.index.specs.Laws.{Indexed}
 use Rattle.posting.specs.File.{lineAnswer}
 
@@ -19,8 +20,8 @@ pub record NowNoted (file : List ℕ) (i : ℕ) (table after : List ℕ) : Type 
   pub long : length after ≡ length table
 
 -- the answer to record i, which is noted where it is accepted
-pub record LineAnswered (file : List ℕ) (i : ℕ) (table after : List ℕ) (a : Answer) : Type 0 where
-  pub answers : a ≡ lineAnswer file i
+pub record LineAnswered (known : Known) (file : List ℕ) (i : ℕ) (table after : List ℕ) (a : Answer) : Type 0 where
+  pub answers : a ≡ lineAnswer known file i
   pub notes : a .code ≡ 0 → NowNoted file i table after
 
 -- whole records, no more than 999, and a table that has none of them yet, and room for all

@@ -4,10 +4,11 @@ ghost use mathlib.Core.Bool.{false};
 ghost use Prim.Native.Nat.{_+_, _*_, _^_, _≤_, _<_};
 ghost use mathlib.Core.List.{_∷_, _++_, []};
 ghost use lib.ListN.{length, drop};
+ghost use Rattle.psc.specs.Search.{found};
 ghost use Rattle.text.specs.Promises.{Gives, GivesWithin};
 ghost use Rattle.text.specs.Lists.{overlay};
 ghost use Rattle.text.specs.Numbers.{decimalPlaces, decimal};
-ghost use Rattle.posting.specs.File.{recordAt, repeats, noTotals, amountOf, brought, withRecord, refused, fileAnswer};
+ghost use Rattle.posting.specs.File.{recordAt, repeats, noTotals, amountOf, brought, withRecord, refused, fileAnswer, tableRefused, fileCheck};
 ghost use Rattle.posting.specs.Calls.{fits, sumOfTotals, totalOr};
 ghost use Rattle.posting.specs.Bounds.{Small};
 ghost use Rattle.posting.specs.Slots.{RoomFor, NowNoted, LineAnswered, ToCheck};
@@ -16,6 +17,7 @@ use fields::Hellers;
 use fields::MoneyReading;
 use fields::StatusReading;
 use fields::Sum;
+use psc::WRONG_TABLE;
 use text::ACCEPTED;
 use text::Answer;
 use text::WRONG_LENGTH;
@@ -90,9 +92,9 @@ const WRONG_END: Answer = Answer {
 pub const TWICE: Answer = Answer { code: 2, place: 1 };
 
 // What record i breaks, its line end first.
-fn line_answer(file: &[u8], i: usize, table: &mut [u16]) -> Answer
+fn line_answer(file: &[u8], i: usize, psc: &[u32], table: &mut [u16]) -> Answer
     requires { ⌜ (i < 1000) × (i * 401 + 401 ≤ length (now file)) × RoomFor (now file) i (now table) ⌝ }
-    ensures { λ r. ⌜ LineAnswered (now (file .entry)) i (now (table .entry)) (now (table .exit)) r ⌝ }
+    ensures { λ r. ⌜ LineAnswered (found (now (psc .entry))) (now (file .entry)) i (now (table .entry)) (now (table .exit)) r ⌝ }
 {
     let at = i * 401;
     let e = at + 399;
@@ -100,7 +102,7 @@ fn line_answer(file: &[u8], i: usize, table: &mut [u16]) -> Answer
     if !ended {
         return WRONG_END;
     }
-    let answer = record::check(&file[at..e]);
+    let answer = record::answer(&file[at..e], psc, false);
     if answer.code != 0 {
         return answer;
     }
@@ -208,15 +210,15 @@ fn with_record_at(t: Totals, file: &[u8], i: usize) -> Totals
 }
 
 // The answer to whole records. The lent table has none of them yet, and more slots than there are records.
-fn checked(file: &[u8], table: &mut [u16]) -> FileAnswer
+fn checked(file: &[u8], psc: &[u32], table: &mut [u16]) -> FileAnswer
     requires { ⌜ ToCheck (now file) (now table) ⌝ }
-    ensures { λ r. ⌜ r ≡ fileAnswer (now (file .entry)) ⌝ }
+    ensures { λ r. ⌜ r ≡ fileAnswer (found (now (psc .entry))) (now (file .entry)) ⌝ }
 {
     let n = file.len() / 401;
     let mut totals = no_totals();
     let mut i = 0;
     while i < n {
-        let a = line_answer(file, i, table);
+        let a = line_answer(file, i, psc, table);
         if a.code != 0 {
             return refused(a.code, i as u32 + 1, a.place);
         }
@@ -231,8 +233,9 @@ fn checked(file: &[u8], table: &mut [u16]) -> FileAnswer
     }
 }
 
-pub fn check(file: &[u8]) -> FileAnswer
-    ensures { λ r. ⌜ Gives (fileAnswer (now (file .entry))) r ⌝ }
+// The answer by what a look finds in the table of postcodes, which has been tested.
+fn looked_up(file: &[u8], psc: &[u32]) -> FileAnswer
+    ensures { λ r. ⌜ r ≡ fileAnswer (found (now (psc .entry))) (now (file .entry)) ⌝ }
 {
     if file.len() % 401 != 0 {
         return refused(211, 0, 0);
@@ -244,14 +247,31 @@ pub fn check(file: &[u8]) -> FileAnswer
     // Slots are cleared at each call, so there are few for a small file; and at least twice as many as records, so that walks are short.
     if n < 64 {
         let mut few = [0u16; 128];
-        return checked(file, &mut few[..128]);
+        return checked(file, psc, &mut few[..128]);
     }
     if n < 256 {
         let mut some = [0u16; 512];
-        return checked(file, &mut some[..512]);
+        return checked(file, psc, &mut some[..512]);
     }
     let mut table = [0u16; 2048];
-    checked(file, &mut table[..2048])
+    checked(file, psc, &mut table[..2048])
+}
+
+// The answer under a wrong table.
+pub fn table_refused() -> FileAnswer
+    ensures { λ r. ⌜ Gives tableRefused r ⌝ }
+{
+    refused(WRONG_TABLE.code, 0, WRONG_TABLE.place)
+}
+
+// The check of a whole file, under a table of the postcodes that exist.
+pub fn check(file: &[u8], psc: &[u32]) -> FileAnswer
+    ensures { λ r. ⌜ Gives (fileCheck (now (psc .entry)) (now (file .entry))) r ⌝ }
+{
+    if !psc::right(psc) {
+        return table_refused();
+    }
+    looked_up(file, psc)
 }
 
 // ---- the line of seven numbers
@@ -343,24 +363,27 @@ pub fn put_report(a: FileAnswer, out: &mut [u8]) -> Reported
 }
 
 // The line for a whole file, into a lent buffer.
-pub fn report(file: &[u8], out: &mut [u8]) -> Reported
-    ensures { λ r. ⌜ Report (fileAnswer (now (file .entry))) (now (out .entry)) r (now (out .exit)) ⌝ }
+pub fn report(file: &[u8], psc: &[u32], out: &mut [u8]) -> Reported
+    ensures { λ r. ⌜ Report (fileCheck (now (psc .entry)) (now (file .entry))) (now (out .entry)) r (now (out .exit)) ⌝ }
 {
-    put_report(check(file), out)
+    put_report(check(file, psc), out)
 }
 
-fn check_input(input: &[u8]) -> FileAnswer
-    ensures { λ r. ⌜ r ≡ inputAnswer (now (input .entry)) ⌝ }
+fn check_input(input: &[u8], psc: &[u32]) -> FileAnswer
+    ensures { λ r. ⌜ r ≡ inputAnswer (now (psc .entry)) (now (input .entry)) ⌝ }
 {
+    if !psc::right(psc) {
+        return table_refused();
+    }
     if input.len() > 64_160 {
         return refused(213, 0, 0);
     }
-    check(input)
+    looked_up(input, psc)
 }
 
 // The same for what the checking program has read: above 64,160 bytes the line says 213.
-pub fn report_input(input: &[u8], out: &mut [u8]) -> Reported
-    ensures { λ r. ⌜ Report (inputAnswer (now (input .entry))) (now (out .entry)) r (now (out .exit)) ⌝ }
+pub fn report_input(input: &[u8], psc: &[u32], out: &mut [u8]) -> Reported
+    ensures { λ r. ⌜ Report (inputAnswer (now (psc .entry)) (now (input .entry))) (now (out .entry)) r (now (out .exit)) ⌝ }
 {
-    put_report(check_input(input), out)
+    put_report(check_input(input, psc), out)
 }

@@ -17,12 +17,12 @@ use Rattle.fields.specs.Meanings.{GoodPostcode}
 use Rattle.fields.proofs.TextLaws.{text-absent}
 use Rattle.fields.proofs.PostcodeLaws.{home-exactly, absent-exactly, good-postcode-exactly}
 use Rattle.record.specs.Readings.{textIn, addressOf}
-use Rattle.record.specs.Rules.{table, recordAnswer}
+use Rattle.record.specs.Rules.{Terms, table, recordAnswer}
 use Rattle.record.specs.Codes.{lacks}
 use Rattle.record.specs.Outcomes.{Blank, PostcodeMalformed, CountryMalformed, NameMissing, PostcodeMissing, MunicipalityMissing}
 use Rattle.record.proofs.Turns.{turn-exactly}
 
-module _ (toBePosted : Bool) (rec : List ℕ) where
+module _ (t : Terms) (rec : List ℕ) where
   text-blank : (n : ℕ) → (absentText (textIn rec n) ≡ true) ↔ Blank rec n
   text-blank n = (λ h. text-absent (widthOf n) (fieldOf rec n) .0 (is-absent (textIn rec n) h), λ s. ap absentText (text-absent (widthOf n) (fieldOf rec n) .1 s))
     where
@@ -46,23 +46,23 @@ module _ (toBePosted : Bool) (rec : List ℕ) where
       go false e = (λ h. absurd (clash h refl), λ n. absurd (n (e .0 refl)))
 
   -- ---- 210
-  pub code-210-at-5-exactly : (recordAnswer toBePosted rec ≡ answer 210 5) ↔ PostcodeMalformed rec
+  pub code-210-at-5-exactly : (recordAnswer t rec ≡ answer 210 5) ↔ PostcodeMalformed rec
   unfolding table lacks
-  code-210-at-5-exactly = turn-exactly toBePosted rec _ _ _ _ _ _ _ _ wrong refl refl refl refl refl
+  code-210-at-5-exactly = turn-exactly t rec _ _ _ _ _ _ _ _ wrong refl refl refl refl refl
 
-  pub code-210-at-6-exactly : (recordAnswer toBePosted rec ≡ answer 210 6) ↔ CountryMalformed rec
+  pub code-210-at-6-exactly : (recordAnswer t rec ≡ answer 210 6) ↔ CountryMalformed rec
   unfolding table lacks
-  code-210-at-6-exactly = turn-exactly toBePosted rec _ _ _ _ _ _ _ _ (λ h. h, λ h. h) refl refl refl refl refl
+  code-210-at-6-exactly = turn-exactly t rec _ _ _ _ _ _ _ _ (λ h. h, λ h. h) refl refl refl refl refl
 
   -- ---- 27
-  pub code-27-at-4-exactly : (recordAnswer toBePosted rec ≡ answer 27 4) ↔ NameMissing toBePosted rec
+  pub code-27-at-4-exactly : (recordAnswer t rec ≡ answer 27 4) ↔ NameMissing (t .toBePosted) rec
   unfolding table lacks
-  code-27-at-4-exactly = turn-exactly toBePosted rec _ _ _ _ _ _ _ _ (text-blank 4) refl refl refl refl refl
+  code-27-at-4-exactly = turn-exactly t rec _ _ _ _ _ _ _ _ (text-blank 4) refl refl refl refl refl
 
-  pub code-27-at-5-exactly : (recordAnswer toBePosted rec ≡ answer 27 5) ↔ PostcodeMissing toBePosted rec
+  pub code-27-at-5-exactly : (recordAnswer t rec ≡ answer 27 5) ↔ PostcodeMissing (t .toBePosted) rec
   unfolding table lacks
-  code-27-at-5-exactly = turn-exactly toBePosted rec _ _ _ _ _ _ _ _ missing refl refl refl refl refl
+  code-27-at-5-exactly = turn-exactly t rec _ _ _ _ _ _ _ _ missing refl refl refl refl refl
 
-  pub code-27-at-7-exactly : (recordAnswer toBePosted rec ≡ answer 27 7) ↔ MunicipalityMissing toBePosted rec
+  pub code-27-at-7-exactly : (recordAnswer t rec ≡ answer 27 7) ↔ MunicipalityMissing (t .toBePosted) rec
   unfolding table lacks
-  code-27-at-7-exactly = turn-exactly toBePosted rec _ _ _ _ _ _ _ _ (text-blank 7) refl refl refl refl refl
+  code-27-at-7-exactly = turn-exactly t rec _ _ _ _ _ _ _ _ (text-blank 7) refl refl refl refl refl

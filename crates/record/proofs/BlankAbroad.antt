@@ -4,7 +4,7 @@
 use Prim.Native.Nat.{ℕ}
 use mathlib.Core.Path.{_≡_, refl, ap, _∙_}
 use mathlib.Core.Bool.{Bool, true, false, cond, not, _&&_, _||_}
-use mathlib.Core.List.{List, _∷_}
+use mathlib.Core.List.{List, _∷_, _++_}
 use mathlib.Core.Logic.{_⊎_, inl, inr}
 use native.Mathlib.Omega.{arith}
 use lib.Dec.{eqb}
@@ -26,8 +26,8 @@ use Rattle.fields.proofs.NumberLaws.{digits-absent}
 use Rattle.fields.proofs.TextLaws.{text-absent}
 use Rattle.fields.proofs.OtherLaws.{country-absent}
 use Rattle.record.specs.Table.{Rule, broken, verdict}
-use Rattle.record.specs.Readings.{textIn, contactOf, goodsOf, marksOf, pieceOf}
-use Rattle.record.specs.Rules.{identifierRule, malformedRule, laterRules, table, recordAnswer}
+use Rattle.record.specs.Readings.{textIn, addressOf, contactOf, goodsOf, marksOf, pieceOf}
+use Rattle.record.specs.Rules.{Terms, identifierRule, malformedRule, askedIn, postcodeRules, laterRules, table, recordAnswer}
 use Rattle.record.specs.BlankAbroad.{misplaced, malformedBlankAbroad, addressRuleBlankAbroad, tableBlankAbroad, answerBlankAbroad}
 use Rattle.record.specs.Codes.{lacks}
 use Rattle.record.specs.Outcomes.{noneBroken, Blank}
@@ -58,8 +58,8 @@ alike c f (inr blank) = go c (digits-absent 5 f .1 blank) (text-absent 5 f .1 bl
     go (Country.Value a b) d t = record { formed = rw (d, t); placed = rw d }
     go Country.Malformed d t = record { formed = rw (d, t); placed = rw d }
 
-module _ (toBePosted : Bool) (rec : List ℕ) where
-  pub same-answer : Blank rec 6 ⊎ Blank rec 5 → recordAnswer toBePosted rec ≡ answerBlankAbroad toBePosted rec
+module _ (t : Terms) (rec : List ℕ) where
+  pub same-answer : Blank rec 6 ⊎ Blank rec 5 → recordAnswer t rec ≡ answerBlankAbroad t rec
   unfolding recordAnswer answerBlankAbroad table tableBlankAbroad
   same-answer b = let a = alike (readCountry (fieldOf rec 6)) (fieldOf rec 5) (home b) in rw (a .formed, a .placed)
     where
@@ -94,25 +94,25 @@ middle true b c h = absurd (clash refl h)
 middle false true c h = absurd (clash refl h)
 middle false false c h = refl
 
-module _ (toBePosted : Bool) (rec : List ℕ) where
-  kept-blank : noneBroken (tableBlankAbroad toBePosted rec) ≡ true → Blank rec 6 ⊎ Blank rec 5
+module _ (t : Terms) (rec : List ℕ) where
+  kept-blank : noneBroken (tableBlankAbroad t rec) ≡ true → Blank rec 6 ⊎ Blank rec 5
   unfolding tableBlankAbroad
   kept-blank h =
-      let later = laterRules rec (contactOf rec) (goodsOf rec) (marksOf rec) (pieceOf rec) in
-      let address = third-kept (identifierRule rec) (malformedRule (malformedBlankAbroad toBePosted rec)) (addressRuleBlankAbroad rec) later h in
+      let later = postcodeRules (t .known) (addressOf rec .postcode) (askedIn (goodsOf rec) .service41) ++ laterRules rec (contactOf rec) (goodsOf rec) (marksOf rec) (pieceOf rec) in
+      let address = third-kept (identifierRule rec) (malformedRule (malformedBlankAbroad (t .toBePosted) rec)) (addressRuleBlankAbroad rec) later h in
       go (home-or-blank (readCountry (fieldOf rec 6)) (fieldOf rec 5) (middle (absentText (textIn rec 4)) _ (absentText (textIn rec 7)) address))
     where
       go : (readCountry (fieldOf rec 6) ≡ Country.Absent) ⊎ (fieldOf rec 5 ≡ replicate 5 32) → Blank rec 6 ⊎ Blank rec 5
       go (inl s) = inl (country-absent (fieldOf rec 6) .0 s)
       go (inr s) = inr s
 
-  accepted-blank : answerBlankAbroad toBePosted rec .code ≡ 0 → Blank rec 6 ⊎ Blank rec 5
+  accepted-blank : answerBlankAbroad t rec .code ≡ 0 → Blank rec 6 ⊎ Blank rec 5
   unfolding answerBlankAbroad tableBlankAbroad lacks
   accepted-blank = go (eqb (length rec) 399)
     where
-      go : (t : Bool) → cond t (verdict (tableBlankAbroad toBePosted rec)) wrongLength .code ≡ 0 → Blank rec 6 ⊎ Blank rec 5
-      go true z = kept-blank (table-accepts (tableBlankAbroad toBePosted rec) refl .0 z)
+      go : (long : Bool) → cond long (verdict (tableBlankAbroad t rec)) wrongLength .code ≡ 0 → Blank rec 6 ⊎ Blank rec 5
+      go true z = kept-blank (table-accepts (tableBlankAbroad t rec) refl .0 z)
       go false z = absurd (omega (arith, z))
 
-  pub still-accepted : answerBlankAbroad toBePosted rec .code ≡ 0 → recordAnswer toBePosted rec .code ≡ 0
-  still-accepted z = ap (λ (a : Answer). a .code) (same-answer toBePosted rec (accepted-blank z)) ∙ z
+  pub still-accepted : answerBlankAbroad t rec .code ≡ 0 → recordAnswer t rec .code ≡ 0
+  still-accepted z = ap (λ (a : Answer). a .code) (same-answer t rec (accepted-blank z)) ∙ z

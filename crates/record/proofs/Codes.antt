@@ -8,18 +8,18 @@ use borrow.Author.Tests.{eq-eqb, eqb-false}
 use lib.Dec.{eqb}
 use Rattle.text.proofs.Booleans.{clash}
 use Rattle.record.specs.Table.{Rule, codeOf}
-use Rattle.record.specs.Rules.{table}
+use Rattle.record.specs.Rules.{Terms, table}
 use Rattle.record.specs.Codes.{tableCodes, lacks}
 
 -- ---- the paper's table: its codes, in its order
-pub codes-in-order : (toBePosted : Bool) (rec : List ℕ) → map codeOf (table toBePosted rec) ≡ tableCodes
+pub codes-in-order : (t : Terms) (rec : List ℕ) → map codeOf (table t rec) ≡ tableCodes
 unfolding table
-codes-in-order toBePosted rec = refl
+codes-in-order t rec = refl
 
 -- none of them is 0
-pub none-zero : (toBePosted : Bool) (rec : List ℕ) → lacks 0 (map codeOf (table toBePosted rec)) ≡ true
+pub none-zero : (t : Terms) (rec : List ℕ) → lacks 0 (map codeOf (table t rec)) ≡ true
 unfolding lacks
-none-zero toBePosted rec = rw (codes-in-order toBePosted rec)
+none-zero t rec = rw (codes-in-order t rec)
 
 -- ---- a list of codes
 -- one that is there is not one that it lacks

@@ -5,6 +5,8 @@ pub mod Order
 pub mod Status
 pub mod Codes
 pub mod Turns
+pub mod TwoCodes
 pub mod WeightCodes
+pub mod PostcodeCodes
 pub mod AddressCodes
 pub mod BlankAbroad

@@ -13,7 +13,7 @@ use Rattle.text.specs.declared.Answer.{Answer}
 use Rattle.text.specs.Answers.{answer, accepted, wrongLength}
 use Rattle.text.proofs.Booleans.{clash}
 use Rattle.record.specs.Table.{Case, Rule, firstCase, firstRule, verdict, anyCase, broken, codeOf}
-use Rattle.record.specs.Rules.{table, recordAnswer}
+use Rattle.record.specs.Rules.{Terms, table, recordAnswer}
 use Rattle.record.specs.Codes.{tableCodes, recordCodes, lacks}
 use Rattle.record.specs.Outcomes.{noCase, noneBroken, FirstCase, FirstBroken, TableOutcome, good, bad}
 use Rattle.record.proofs.Codes.{codes-in-order, lacks-other, lacks-behind, lacks-there, none-zero}
@@ -50,9 +50,9 @@ outcome (r ∷ rs) = go (judge-case (r .code) (r .cases) (verdict rs)) (outcome 
 
 -- ---- the record
 -- what `check` answers to a record of 399 bytes: 0 where no rule is broken, else the first rule that is, at the place of its first case
-pub record-outcome : (toBePosted : Bool) (rec : List ℕ) → length rec ≡ 399 → TableOutcome (table toBePosted rec) (recordAnswer toBePosted rec)
+pub record-outcome : (t : Terms) (rec : List ℕ) → length rec ≡ 399 → TableOutcome (table t rec) (recordAnswer t rec)
 unfolding recordAnswer
-record-outcome toBePosted rec e = rw (eq-eqb (length rec) 399 e) (outcome (table toBePosted rec))
+record-outcome t rec e = rw (eq-eqb (length rec) 399 e) (outcome (table t rec))
 
 -- code 0 exactly if none of the conditions holds: of any table without a code 0, and of the record's
 pub table-accepts : (rs : List Rule) → lacks 0 (map codeOf rs) ≡ true → (verdict rs .code ≡ 0) ↔ (noneBroken rs ≡ true)
@@ -65,9 +65,9 @@ table-accepts rs n = go (outcome rs)
       λ t. absurd (clash t q),
     )
 
-pub accepted-exactly : (toBePosted : Bool) (rec : List ℕ) → length rec ≡ 399 → (recordAnswer toBePosted rec .code ≡ 0) ↔ (noneBroken (table toBePosted rec) ≡ true)
+pub accepted-exactly : (t : Terms) (rec : List ℕ) → length rec ≡ 399 → (recordAnswer t rec .code ≡ 0) ↔ (noneBroken (table t rec) ≡ true)
 unfolding recordAnswer
-accepted-exactly toBePosted rec e = rw (eq-eqb (length rec) 399 e) (table-accepts (table toBePosted rec) (none-zero toBePosted rec))
+accepted-exactly t rec e = rw (eq-eqb (length rec) 399 e) (table-accepts (table t rec) (none-zero t rec))
 
 -- ---- and no other code than those of `recordCodes`
 -- a table gives 0 or one of its codes
@@ -84,15 +84,15 @@ table-code rs = go (outcome rs)
 pub none-other : (c : ℕ) (rs : List Rule) → lacks c (0 ∷ map codeOf rs) ≡ true → verdict rs .code ≡ c → ⊥
 none-other c rs l z = lacks-other c (verdict rs .code) (0 ∷ map codeOf rs) (table-code rs) l z
 
-pub code-known : (toBePosted : Bool) (rec : List ℕ) → lacks (recordAnswer toBePosted rec .code) recordCodes ≡ false
+pub code-known : (t : Terms) (rec : List ℕ) → lacks (recordAnswer t rec .code) recordCodes ≡ false
 unfolding lacks recordAnswer
-code-known toBePosted rec = go (eqb (length rec) 399)
+code-known t rec = go (eqb (length rec) 399)
   where
-    go : (t : Bool) → lacks (cond t (verdict (table toBePosted rec)) wrongLength .code) recordCodes ≡ false
+    go : (long : Bool) → lacks (cond long (verdict (table t rec)) wrongLength .code) recordCodes ≡ false
     go true =
-        let c = verdict (table toBePosted rec) .code in
-        lacks-behind c 236 (0 ∷ tableCodes) (ap (λ (cs : List ℕ). lacks c (0 ∷ cs)) (sym (codes-in-order toBePosted rec)) ∙ table-code (table toBePosted rec))
+        let c = verdict (table t rec) .code in
+        lacks-behind c 236 (0 ∷ tableCodes) (ap (λ (cs : List ℕ). lacks c (0 ∷ cs)) (sym (codes-in-order t rec)) ∙ table-code (table t rec))
     go false = refl
 
-pub no-other-code : (toBePosted : Bool) (rec : List ℕ) (c : ℕ) → lacks c recordCodes ≡ true → recordAnswer toBePosted rec .code ≡ c → ⊥
-no-other-code toBePosted rec c l z = lacks-other c (recordAnswer toBePosted rec .code) recordCodes (code-known toBePosted rec) l z
+pub no-other-code : (t : Terms) (rec : List ℕ) (c : ℕ) → lacks c recordCodes ≡ true → recordAnswer t rec .code ≡ c → ⊥
+no-other-code t rec c l z = lacks-other c (recordAnswer t rec .code) recordCodes (code-known t rec) l z

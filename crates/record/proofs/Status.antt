@@ -10,6 +10,7 @@ use borrow.Author.Tests.{eq-eqb, eqb-true, eqb-false, ltb-true, ltb-false}
 use lib.Dec.{eqb, ltb}
 use lib.ListN.{length, getD, take, drop, set, length-set}
 use lib.Seq.{take-set-le, drop-set-lt, drop-set-add, drop-cons, getD-set-same, getD-set-other}
+use Rattle.psc.specs.Table.{Known}
 use Rattle.layout.specs.Widths.{start, cut}
 use Rattle.layout.specs.Layout.{widths, isField, fieldOf}
 use Rattle.layout.proofs.Tiling.{no-overlap}
@@ -22,7 +23,7 @@ use Rattle.text.specs.Answers.{answer}
 use Rattle.text.proofs.Booleans.{clash, both}
 use Rattle.record.specs.Table.{Rule, placesFrom, anyCase, broken, verdict}
 use Rattle.record.specs.Readings.{whenOf, addressOf, streetOf, contactOf, goodsOf, marksOf, pieceOf, tailOf, malformedStatus, cancelledRec}
-use Rattle.record.specs.Rules.{malformed, givenOf, travelOf, table, recordAnswer}
+use Rattle.record.specs.Rules.{inFile, toPost, terms, Terms, malformed, givenOf, travelOf, table, recordAnswer}
 use Rattle.record.specs.Outcomes.{noneBroken}
 use Rattle.record.proofs.Order.{accepted-exactly}
 
@@ -81,10 +82,10 @@ cancelled-rec-status rec long =
     rw (eq-eqb (length (cancelledRec rec)) 399 wide) bytes
 
 -- ---- two records that differ in the status alone, under either table
-status-only : (p q : Bool) (rec new : List ℕ) → ((n : ℕ) → (n ≡ 19 → ⊥) → fieldOf new n ≡ fieldOf rec n)
-    → malformedStatus q (readStatus (fieldOf new 19)) ≡ malformedStatus p (readStatus (fieldOf rec 19)) → noneBroken (table q new) ≡ noneBroken (table p rec)
+status-only : (known : Known) (p q : Bool) (rec new : List ℕ) → ((n : ℕ) → (n ≡ 19 → ⊥) → fieldOf new n ≡ fieldOf rec n)
+    → malformedStatus q (readStatus (fieldOf new 19)) ≡ malformedStatus p (readStatus (fieldOf rec 19)) → noneBroken (table (terms q known) new) ≡ noneBroken (table (terms p known) rec)
 unfolding table givenOf travelOf
-status-only p q rec new same e =
+status-only known p q rec new same e =
     let other : (n : ℕ) → eqb n 19 ≡ false → fieldOf new n ≡ fieldOf rec n = λ n h. same n (eqb-false n 19 h) in
     rw (e, other 1 refl, other 2 refl, other 3 refl, other 4 refl, other 5 refl, other 6 refl, other 7 refl, other 8 refl, other 9 refl, other 10 refl, other 11 refl, other 12 refl, other 13 refl, other 14 refl, other 15 refl, other 16 refl, other 17 refl, other 18 refl, other 20 refl, other 21 refl, other 22 refl, other 23 refl, other 24 refl, other 25 refl, other 26 refl)
 
@@ -108,42 +109,42 @@ second-kept r s rs h = go (broken r) (broken s) h
 abbrev pub malformedIn : Bool → List ℕ → List Bool
 malformedIn toBePosted rec = malformed toBePosted (whenOf rec) (addressOf rec) (streetOf rec) (contactOf rec) (goodsOf rec) (marksOf rec) (pieceOf rec) (tailOf rec)
 
-pub none-malformed : (toBePosted : Bool) (rec : List ℕ) → noneBroken (table toBePosted rec) ≡ true → (k : ℕ) → getD (malformedIn toBePosted rec) k false ≡ false
+pub none-malformed : (t : Terms) (rec : List ℕ) → noneBroken (table t rec) ≡ true → (k : ℕ) → getD (malformedIn (t .toBePosted) rec) k false ≡ false
 unfolding table
-none-malformed toBePosted rec h k = no-flag (malformedIn toBePosted rec) 2 k (second-kept _ _ _ h)
+none-malformed t rec h k = no-flag (malformedIn (t .toBePosted) rec) 2 k (second-kept _ _ _ h)
 
-status-allowed : (toBePosted : Bool) (rec : List ℕ) → noneBroken (table toBePosted rec) ≡ true → malformedStatus toBePosted (readStatus (fieldOf rec 19)) ≡ false
-status-allowed toBePosted rec h = none-malformed toBePosted rec h 17
+status-allowed : (t : Terms) (rec : List ℕ) → noneBroken (table t rec) ≡ true → malformedStatus (t .toBePosted) (readStatus (fieldOf rec 19)) ≡ false
+status-allowed t rec h = none-malformed t rec h 17
 
 -- ---- a record that may be posted
-posting-long : (rec : List ℕ) → recordAnswer true rec .code ≡ 0 → length rec ≡ 399
+posting-long : (known : Known) (rec : List ℕ) → recordAnswer (toPost known) rec .code ≡ 0 → length rec ≡ 399
 unfolding recordAnswer
-posting-long rec z = go (eqb (length rec) 399) refl z
+posting-long known rec z = go (eqb (length rec) 399) refl z
   where
-    go : (t : Bool) → eqb (length rec) 399 ≡ t → cond t (verdict (table true rec)) (answer 236 0) .code ≡ 0 → length rec ≡ 399
+    go : (t : Bool) → eqb (length rec) 399 ≡ t → cond t (verdict (table (toPost known) rec)) (answer 236 0) .code ≡ 0 → length rec ≡ 399
     go true e z = eqb-true (length rec) 399 e
     go false e z = absurd (omega arith)
 
-pub posting-passes : (rec : List ℕ) → recordAnswer true rec .code ≡ 0 → (length rec ≡ 399) × (fieldOf rec 19 ≡ 32 ∷ 32 ∷ []) × (recordAnswer false rec .code ≡ 0)
-posting-passes rec z =
-    let long = posting-long rec z in
-    let kept = accepted-exactly true rec long .0 z in
-    go (readStatus (fieldOf rec 19)) refl long kept (status-allowed true rec kept)
+pub posting-passes : (known : Known) (rec : List ℕ) → recordAnswer (toPost known) rec .code ≡ 0 → (length rec ≡ 399) × (fieldOf rec 19 ≡ 32 ∷ 32 ∷ []) × (recordAnswer (inFile known) rec .code ≡ 0)
+posting-passes known rec z =
+    let long = posting-long known rec z in
+    let kept = accepted-exactly (toPost known) rec long .0 z in
+    go (readStatus (fieldOf rec 19)) refl long kept (status-allowed (toPost known) rec kept)
   where
-    go : (s : StatusReading) → readStatus (fieldOf rec 19) ≡ s → length rec ≡ 399 → noneBroken (table true rec) ≡ true → malformedStatus true s ≡ false
-        → (length rec ≡ 399) × (fieldOf rec 19 ≡ 32 ∷ 32 ∷ []) × (recordAnswer false rec .code ≡ 0)
+    go : (s : StatusReading) → readStatus (fieldOf rec 19) ≡ s → length rec ≡ 399 → noneBroken (table (toPost known) rec) ≡ true → malformedStatus true s ≡ false
+        → (length rec ≡ 399) × (fieldOf rec 19 ≡ 32 ∷ 32 ∷ []) × (recordAnswer (inFile known) rec .code ≡ 0)
     go Status.Live e long kept a = (
       long,
       live-exactly (fieldOf rec 19) .0 e,
-      accepted-exactly false rec long .1 (status-only true false rec rec (λ n h. refl) (ap (malformedStatus false) e ∙ sym (ap (malformedStatus true) e)) ∙ kept),
+      accepted-exactly (inFile known) rec long .1 (status-only known true false rec rec (λ n h. refl) (ap (malformedStatus false) e ∙ sym (ap (malformedStatus true) e)) ∙ kept),
     )
     go Status.Cancelled e long kept a = absurd (clash refl a)
     go Status.Malformed e long kept a = absurd (clash refl a)
 
 -- ---- a record whose status is set to "0 "
-pub cancelled-rec-passes : (rec : List ℕ) → length rec ≡ 399 → recordAnswer false rec .code ≡ 0 → recordAnswer false (cancelledRec rec) .code ≡ 0
-cancelled-rec-passes rec long z =
-    let kept = accepted-exactly false rec long .0 z in
+pub cancelled-rec-passes : (known : Known) (rec : List ℕ) → length rec ≡ 399 → recordAnswer (inFile known) rec .code ≡ 0 → recordAnswer (inFile known) (cancelledRec rec) .code ≡ 0
+cancelled-rec-passes known rec long z =
+    let kept = accepted-exactly (inFile known) rec long .0 z in
     let status : malformedStatus false (readStatus (fieldOf (cancelledRec rec) 19)) ≡ false = ap (malformedStatus false) (cancelled-exactly _ .1 (cancelled-rec-status rec long)) in
-    accepted-exactly false (cancelledRec rec) (cancelled-rec-long rec ∙ long) .1
-    (status-only false false rec (cancelledRec rec) (cancelled-rec-others rec) (status ∙ sym (status-allowed false rec kept)) ∙ kept)
+    accepted-exactly (inFile known) (cancelledRec rec) (cancelled-rec-long rec ∙ long) .1
+    (status-only known false false rec (cancelledRec rec) (cancelled-rec-others rec) (status ∙ sym (status-allowed (inFile known) rec kept)) ∙ kept)

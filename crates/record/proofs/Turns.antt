@@ -13,7 +13,7 @@ use Rattle.text.specs.Answers.{answer, wrongLength}
 use Rattle.text.proofs.Booleans.{clash}
 use Rattle.record.specs.Table.{Case, Rule, at, rule, firstCase, verdict, broken, codeOf}
 use Rattle.record.specs.Codes.{lacks}
-use Rattle.record.specs.Rules.{table, recordAnswer}
+use Rattle.record.specs.Rules.{Terms, table, recordAnswer}
 use Rattle.record.specs.Outcomes.{noCase, noneBroken, ExactlyAt, InItsTurn}
 use Rattle.record.proofs.Codes.{Lacking, lacking}
 use Rattle.record.proofs.Order.{Judged, passes, breaks, judge-case, none-other}
@@ -81,18 +81,18 @@ place-exactly (x ∷ before) c p earlier b later after rows behind first last =
     go (breaks y f) other h = (λ e. absurd (other (sym (ap (λ (a : Answer). a .code) (f .says)) ∙ ap (λ (a : Answer). a .code) e)), λ g. absurd (clash (g .0) (rw y)))
 
 -- the same of the record's answer
-pub turn-exactly : (toBePosted : Bool) (rec : List ℕ) (before : List Rule) (c p : ℕ) (earlier : List Case) (b : Bool) (later : List Case) (after : List Rule) (condition : Type 0)
-    → (b ≡ true) ↔ condition → table toBePosted rec ≡ before ++ rule c (earlier ++ at p b ∷ later) ∷ after
+pub turn-exactly : (t : Terms) (rec : List ℕ) (before : List Rule) (c p : ℕ) (earlier : List Case) (b : Bool) (later : List Case) (after : List Rule) (condition : Type 0)
+    → (b ≡ true) ↔ condition → table t rec ≡ before ++ rule c (earlier ++ at p b ∷ later) ∷ after
     → lacks c (236 ∷ map codeOf before) ≡ true → lacks c (0 ∷ map codeOf after) ≡ true → lacks p (map placeOf earlier) ≡ true → lacks p (map placeOf later) ≡ true
-    → (recordAnswer toBePosted rec ≡ answer c p) ↔ InItsTurn rec before earlier condition
+    → (recordAnswer t rec ≡ answer c p) ↔ InItsTurn rec before earlier condition
 unfolding recordAnswer
-turn-exactly toBePosted rec before c p earlier b later after condition means split rows behind first last =
+turn-exactly t rec before c p earlier b later after condition means split rows behind first last =
     let m = lacking c 236 (map codeOf before) rows in
     go (eqb (length rec) 399) refl (m .first) (place-exactly before c p earlier b later after (m .rest) behind first last)
   where
-    go : (t : Bool) → eqb (length rec) 399 ≡ t → (_≡_ {A = ℕ} 236 c → ⊥)
+    go : (long : Bool) → eqb (length rec) 399 ≡ long → (_≡_ {A = ℕ} 236 c → ⊥)
         → (verdict (before ++ rule c (earlier ++ at p b ∷ later) ∷ after) ≡ answer c p) ↔ ((noneBroken before ≡ true) × ((noCase earlier ≡ true) × (b ≡ true)))
-        → (cond t (verdict (table toBePosted rec)) wrongLength ≡ answer c p) ↔ InItsTurn rec before earlier condition
+        → (cond long (verdict (table t rec)) wrongLength ≡ answer c p) ↔ InItsTurn rec before earlier condition
     go true e other i = (
       λ z. let h = i .0 (sym (ap verdict split) ∙ z) in record { long = eqb-true _ 399 e; turn = h .0; first = h .1 .0; holds = means .0 (h .1 .1) },
       λ w. ap verdict split ∙ i .1 (w .turn, (w .first, means .1 (w .holds))),

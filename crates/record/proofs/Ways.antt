@@ -7,7 +7,7 @@ use mathlib.Core.List.{List, [], _∷_, _++_}
 use mathlib.Core.Logic.{⊎-elim}
 use native.Mathlib.Omega.{arith}
 use native.Mathlib.Numerals.{add-one}
-use borrow.Author.Tests.{eq-eqb, ne-eqb}
+use borrow.Author.Tests.{eq-eqb, ne-eqb, not-true, not-false}
 use denote.Enum.Declared.{tagOf}
 use types.Run.{OneOf}
 use lib.Dec.{eqb, ltb}
@@ -19,11 +19,17 @@ use Rattle.text.specs.Lists.{sameBytes}
 use Rattle.ident.specs.Identifier.{rightId}
 use Rattle.ident.specs.Calls.{Checked}
 use Rattle.layout.specs.Layout.{fieldOf}
+use Rattle.psc.specs.Table.{rightTable, wrongTable, Known}
+use Rattle.psc.specs.Search.{found}
+use Rattle.psc.proofs.SearchLaws.{found-is-holds}
 use Rattle.fields.proofs.amounts.WeightReading as Weights
+use Rattle.fields.proofs.postcodes.PostcodeReading as Postcodes
 use Rattle.fields.specs.declared.amounts.Grams.{Grams}
 use Rattle.fields.specs.declared.amounts.WeightReading.{WeightReading}
 use Rattle.fields.specs.declared.amounts.WeightReading.the-variants as Weight
 use Rattle.fields.specs.declared.services.Services.{Services}
+use Rattle.fields.specs.declared.postcodes.PostcodeReading.{PostcodeReading}
+use Rattle.fields.specs.declared.postcodes.PostcodeReading.the-variants as Postcode
 use Rattle.fields.specs.Dates.{malformedDate, malformedTime}
 use Rattle.fields.specs.Texts.{malformedText, absentText}
 use Rattle.fields.specs.Numbers.{malformedNumber, absentNumber, numberIn}
@@ -45,7 +51,7 @@ use Rattle.record.specs.declared.rules.Travel.{Travel}
 use Rattle.record.specs.Table.{verdict}
 use Rattle.record.specs.Columns.{whens, codeColumn, placeColumn, firstTrue}
 use Rattle.record.specs.Readings.{whenOf, addressOf, streetOf, contactOf, goodsOf, marksOf, pieceOf, tailOf, malformedStatus}
-use Rattle.record.specs.Rules.{whenFlags, addressFlags, streetFlags, contactFlags, goodsFlags, marksFlags, pieceFlags, tailFlags, earlyFlags, lateFlags, malformed, malformedRule, askedOf, askedIn, givenOf, isSetPrefix, travelOf, identifierRule, formOf, formRules, addressRule, weightRules, serviceRules, contentOf, contentRules, table, recordAnswer}
+use Rattle.record.specs.Rules.{Terms, terms, whenFlags, addressFlags, streetFlags, contactFlags, goodsFlags, marksFlags, pieceFlags, tailFlags, earlyFlags, lateFlags, malformed, malformedRule, askedOf, askedIn, givenOf, isSetPrefix, travelOf, identifierRule, formOf, formRules, addressRule, twoCodes, postcodeRules, weightRules, serviceRules, contentOf, contentRules, table, recordAnswer, checkAnswer}
 use Rattle.record.proofs.Tables.{Malformed, groups-join, lowest, no-lowest, by-columns, rule-then, table-then}
 
 -- ---- the first true
@@ -159,18 +165,32 @@ module _ (a : Address) (h n : Bool) (eh : h ≡ absentCountry (a .country)) (en 
     pub placed : x ≡ false → (h && n) ≡ false → y ≡ false → accepted ≡ verdict (addressRule a ∷ [])
     placed t g u = rw (← ex, t, ← eh, ← en, g, ← ey, u)
 
-pub weightless-41 : (s : Bool) → s ≡ true → answer 31 15 ≡ verdict (weightRules Weight.Absent s)
-weightless-41 s e = rw e
+pub code-with-41 : (first second p : ℕ) (s : Bool) → s ≡ true → answer first p ≡ verdict (twoCodes first second p true s)
+code-with-41 first second p s e = rw e
 
-pub weightless-other : (s : Bool) → s ≡ false → answer 34 15 ≡ verdict (weightRules Weight.Absent s)
-weightless-other s e = rw e
+pub code-without : (first second p : ℕ) (s : Bool) → s ≡ false → answer second p ≡ verdict (twoCodes first second p true s)
+code-without first second p s e = rw e
 
-pub weight-none : (w : WeightReading) (s : Bool) (r : Answer) → OneOf (0 ∷ 2 ∷ []) (tagOf Weights.the-type w) → r ≡ verdict (weightRules Weight.Absent s) → r ≡ verdict (weightRules w s)
+pub postcode-other : (known : Known) (w : PostcodeReading) (s : Bool) → OneOf (0 ∷ 2 ∷ 3 ∷ []) (tagOf Postcodes.the-type w) → accepted ≡ verdict (postcodeRules known w s)
+postcode-other known Postcode.Absent s t = refl
+postcode-other known (Postcode.Domestic n) s t =
+    absurd (⊎-elim (λ (e : _≡_ {A = ℕ} 1 0). omega arith) (⊎-elim (λ (e : _≡_ {A = ℕ} 1 2). omega arith) (λ (e : _≡_ {A = ℕ} 1 3). omega arith)) t)
+postcode-other known (Postcode.Foreign n) s t = refl
+postcode-other known Postcode.Malformed s t = refl
+
+pub postcode-known : (known : Known) (w : PostcodeReading) (n : ℕ) (s f : Bool) → w ≡ Postcode.Domestic n → f ≡ known n → f ≡ true → accepted ≡ verdict (postcodeRules known w s)
+postcode-known known w n s f e k t = rw (e, ← k, t)
+
+pub postcode-unknown : (known : Known) (w : PostcodeReading) (n : ℕ) (s f : Bool) (r : Answer) → w ≡ Postcode.Domestic n → f ≡ known n → f ≡ false → r ≡ verdict (twoCodes 21 24 5 true s)
+    → r ≡ verdict (postcodeRules known w s)
+postcode-unknown known w n s f r e k t g = rw (e, ← k, t) g
+
+pub weight-none : (w : WeightReading) (s : Bool) (r : Answer) → OneOf (0 ∷ 2 ∷ []) (tagOf Weights.the-type w) → r ≡ verdict (twoCodes 31 34 15 true s) → r ≡ verdict (weightRules w s)
 weight-none Weight.Absent s r t e = e
 weight-none (Weight.Value g) s r t e = absurd (⊎-elim (λ (e : _≡_ {A = ℕ} 1 0). omega arith) (λ (e : _≡_ {A = ℕ} 1 2). omega arith) t)
 weight-none Weight.Malformed s r t e = e
 
-pub weight-zero : (w : WeightReading) (g : Grams) (s : Bool) (r : Answer) → w ≡ Weight.Value g → g .0 ≡ 0 → r ≡ verdict (weightRules Weight.Absent s) → r ≡ verdict (weightRules w s)
+pub weight-zero : (w : WeightReading) (g : Grams) (s : Bool) (r : Answer) → w ≡ Weight.Value g → g .0 ≡ 0 → r ≡ verdict (twoCodes 31 34 15 true s) → r ≡ verdict (weightRules w s)
 weight-zero w g s r e z h = rw (e, eq-eqb (g .0) 0 z) h
 
 pub weight-some : (w : WeightReading) (g : Grams) (s : Bool) → w ≡ Weight.Value g → (g .0 ≡ 0 → ⊥) → accepted ≡ verdict (weightRules w s)
@@ -208,29 +228,43 @@ pub services-judged : (s : Asked) (f : Given) (p : Travel) (flags : List Bool) (
 services-judged s f p flags i e g = by-columns (serviceRules s f p) i (g .0 ∙ ap firstTrue e)
 
 -- ---- stage behind stage
-pub content-is : (rec : List ℕ) (a : Address) (c : Contact) (g : Goods) (m : Marks) (p : Piece) (v : Services) (q : Asked) (f : Given) (t : Travel) (a1 a2 a3 r2 r1 : Answer)
-    → v ≡ servicesIn (g .services) → q ≡ askedOf v → f ≡ givenOf c g m → t ≡ travelOf rec p → a3 ≡ verdict (serviceRules q f t)
-    → a2 ≡ verdict (weightRules (g .weight) (q .service41)) → r2 ≡ orElse a2 a3 → a1 ≡ verdict (addressRule a ∷ []) → r1 ≡ orElse a1 r2
-    → r1 ≡ verdict (contentOf rec a c g m p)
-content-is rec a c g m p v q f t a1 a2 a3 r2 r1 ev eq ef et e3 e2 g2 e1 g1 =
+pub content-is : (known : Known) (rec : List ℕ) (a : Address) (c : Contact) (g : Goods) (m : Marks) (p : Piece) (v : Services) (q : Asked) (f : Given) (t : Travel) (a1 a2 a3 a4 r3 r2 r1 : Answer)
+    → v ≡ servicesIn (g .services) → q ≡ askedOf v → f ≡ givenOf c g m → t ≡ travelOf rec p → a4 ≡ verdict (serviceRules q f t)
+    → a3 ≡ verdict (weightRules (g .weight) (q .service41)) → r3 ≡ orElse a3 a4 → a2 ≡ verdict (postcodeRules known (a .postcode) (q .service41)) → r2 ≡ orElse a2 r3
+    → a1 ≡ verdict (addressRule a ∷ []) → r1 ≡ orElse a1 r2 → r1 ≡ verdict (contentOf known rec a c g m p)
+content-is known rec a c g m p v q f t a1 a2 a3 a4 r3 r2 r1 ev eq ef et e4 e3 g3 e2 g2 e1 g1 =
     let asked : q ≡ askedIn g = eq ∙ ap askedOf ev in
+    let postcode = postcodeRules known (a .postcode) (askedIn g .service41) in
     let weight = weightRules (g .weight) (askedIn g .service41) in
     let services = serviceRules (askedIn g) (givenOf c g m) (travelOf rec p) in
-    let rest : r2 ≡ verdict (weight ++ services) = g2 ∙ rw (e2, e3, asked, ef, et) (table-then weight services (λ e. omega arith, (λ e. omega arith, tt))) in
-    g1 ∙ rw (e1, rest) (rule-then (addressRule a) (weight ++ services) (λ e. omega arith))
+    let later : r3 ≡ verdict (weight ++ services) = g3 ∙ rw (e3, e4, asked, ef, et) (table-then weight services (λ e. omega arith, (λ e. omega arith, tt))) in
+    let rest : r2 ≡ verdict (postcode ++ (weight ++ services)) = g2 ∙ rw (e2, later, asked) (table-then postcode (weight ++ services) (λ e. omega arith, (λ e. omega arith, tt))) in
+    g1 ∙ rw (e1, rest) (rule-then (addressRule a) (postcode ++ (weight ++ services)) (λ e. omega arith))
 
-pub record-judged : (toBePosted : Bool) (rec : List ℕ) (a : Address) (c : Contact) (g : Goods) (m : Marks) (p : Piece) (form content r : Answer)
+pub record-judged : (known : Known) (toBePosted : Bool) (rec : List ℕ) (a : Address) (c : Contact) (g : Goods) (m : Marks) (p : Piece) (form content r : Answer)
     → a ≡ addressOf rec → c ≡ contactOf rec → g ≡ goodsOf rec → m ≡ marksOf rec → p ≡ pieceOf rec
-    → form ≡ verdict (formOf toBePosted rec a c g m p) → content ≡ verdict (contentOf rec a c g m p) → r ≡ orElse form content
-    → r ≡ verdict (table toBePosted rec)
+    → form ≡ verdict (formOf toBePosted rec a c g m p) → content ≡ verdict (contentOf known rec a c g m p) → r ≡ orElse form content
+    → r ≡ verdict (table (terms toBePosted known) rec)
 unfolding table
-record-judged toBePosted rec a c g m p form content r ea ec eg em ep ef en er =
-    rw (er, ef, en, ea, ec, eg, em, ep) (table-then (formRules toBePosted rec) (contentRules rec) (λ e. omega arith, (λ e. omega arith, tt)))
+record-judged known toBePosted rec a c g m p form content r ea ec eg em ep ef en er =
+    rw (er, ef, en, ea, ec, eg, em, ep) (table-then (formRules toBePosted rec) (contentRules known rec) (λ e. omega arith, (λ e. omega arith, tt)))
 
-pub record-wide : (toBePosted : Bool) (rec : List ℕ) → (length rec ≡ 399 → ⊥) → wrongLength ≡ recordAnswer toBePosted rec
+pub record-wide : (t : Terms) (rec : List ℕ) → (length rec ≡ 399 → ⊥) → wrongLength ≡ recordAnswer t rec
 unfolding recordAnswer
-record-wide toBePosted rec n = rw (ne-eqb (length rec) 399 n)
+record-wide t rec n = rw (ne-eqb (length rec) 399 n)
 
-pub record-long : (toBePosted : Bool) (rec : List ℕ) (r : Answer) → length rec ≡ 399 → r ≡ verdict (table toBePosted rec) → r ≡ recordAnswer toBePosted rec
+pub record-long : (t : Terms) (rec : List ℕ) (r : Answer) → length rec ≡ 399 → r ≡ verdict (table t rec) → r ≡ recordAnswer t rec
 unfolding recordAnswer
-record-long toBePosted rec r e g = rw (eq-eqb (length rec) 399 e) g
+record-long t rec r e g = rw (eq-eqb (length rec) 399 e) g
+
+-- ---- under a lent table
+pub table-wrong : (toBePosted : Bool) (psc rec : List ℕ) (b : Bool) → b ≡ rightTable psc → not b ≡ true → wrongTable ≡ checkAnswer toBePosted psc rec
+unfolding checkAnswer
+table-wrong toBePosted psc rec b e n = rw (← e, not-true b n)
+
+pub table-right : (toBePosted : Bool) (psc rec : List ℕ) (b : Bool) (r : Answer) → b ≡ rightTable psc → not b ≡ false → r ≡ recordAnswer (terms toBePosted (found psc)) rec
+    → r ≡ checkAnswer toBePosted psc rec
+unfolding checkAnswer
+table-right toBePosted psc rec b r e n g =
+    let right : rightTable psc ≡ true = sym e ∙ not-false b n in
+    g ∙ rw (found-is-holds psc right, right)

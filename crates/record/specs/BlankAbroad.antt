@@ -15,8 +15,8 @@ use Rattle.fields.specs.Texts.{malformedText, absentText}
 use Rattle.fields.specs.Numbers.{readDigits, malformedNumber, absentNumber}
 use Rattle.fields.specs.Others.{readCountry, malformedCountry, absentCountry}
 use Rattle.record.specs.Table.{Rule, at, rule, verdict}
-use Rattle.record.specs.Readings.{textIn, whenOf, streetOf, contactOf, goodsOf, marksOf, pieceOf, tailOf}
-use Rattle.record.specs.Rules.{whenFlags, streetFlags, contactFlags, lateFlags, identifierRule, malformedRule, laterRules}
+use Rattle.record.specs.Readings.{textIn, whenOf, addressOf, streetOf, contactOf, goodsOf, marksOf, pieceOf, tailOf}
+use Rattle.record.specs.Rules.{Terms, whenFlags, streetFlags, contactFlags, lateFlags, identifierRule, malformedRule, askedIn, postcodeRules, laterRules}
 
 -- 5: five digits or blank, whatever the country
 abbrev pub digitsIn5 : List ℕ → NumberReading
@@ -46,12 +46,14 @@ malformedBlankAbroad toBePosted rec =
     (whenFlags (whenOf rec) ++ (addressFlagsBlankAbroad rec ++ (streetFlags (streetOf rec) ++ contactFlags (contactOf rec))))
     ++ lateFlags toBePosted (goodsOf rec) (marksOf rec) (pieceOf rec) (tailOf rec)
 
-unfoldable pub tableBlankAbroad : Bool → List ℕ → List Rule
-tableBlankAbroad toBePosted rec =
+-- the rules behind them are those of today
+unfoldable pub tableBlankAbroad : Terms → List ℕ → List Rule
+tableBlankAbroad t rec =
     identifierRule rec
-    ∷ malformedRule (malformedBlankAbroad toBePosted rec)
+    ∷ malformedRule (malformedBlankAbroad (t .toBePosted) rec)
     ∷ addressRuleBlankAbroad rec
-    ∷ laterRules rec (contactOf rec) (goodsOf rec) (marksOf rec) (pieceOf rec)
+    ∷ (postcodeRules (t .known) (addressOf rec .postcode) (askedIn (goodsOf rec) .service41)
+    ++ laterRules rec (contactOf rec) (goodsOf rec) (marksOf rec) (pieceOf rec))
 
-unfoldable pub answerBlankAbroad : Bool → List ℕ → Answer
-answerBlankAbroad toBePosted rec = cond (eqb (length rec) 399) (verdict (tableBlankAbroad toBePosted rec)) wrongLength
+unfoldable pub answerBlankAbroad : Terms → List ℕ → Answer
+answerBlankAbroad t rec = cond (eqb (length rec) 399) (verdict (tableBlankAbroad t rec)) wrongLength

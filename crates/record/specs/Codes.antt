@@ -7,9 +7,9 @@ use lib.Dec.{eqb}
 
 -- the table's, in its order
 abbrev pub tableCodes : List ℕ
-tableCodes = 1 ∷ 210 ∷ 27 ∷ 31 ∷ 34 ∷ 36 ∷ 11 ∷ 221 ∷ 222 ∷ 220 ∷ 223 ∷ 72 ∷ []
+tableCodes = 1 ∷ 210 ∷ 27 ∷ 21 ∷ 24 ∷ 31 ∷ 34 ∷ 36 ∷ 11 ∷ 221 ∷ 222 ∷ 220 ∷ 223 ∷ 72 ∷ []
 
--- and 236 for another length than 399, 0 for a good record
+-- and 236 for another length than 399, 0 for a good record; 238 is the lent table's
 abbrev pub recordCodes : List ℕ
 recordCodes = 236 ∷ 0 ∷ tableCodes
 

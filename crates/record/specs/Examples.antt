@@ -1,5 +1,5 @@
--- Records that pass, computed over the definitions: so the table does not refuse everything. And postcodes at home and abroad, and the two codes of a
--- missing weight.
+-- Records that pass, computed over the definitions: so the table does not refuse everything. And postcodes at home and abroad, the two codes of one that
+-- does not exist and of a missing weight, and wrong tables.
 -- Assumes nothing.
 use Prim.Native.Nat.{ℕ}
 use Prim.Native.String.{String}
@@ -14,6 +14,7 @@ use Rattle.text.specs.Numbers.{numberAfter}
 use Rattle.text.specs.Texts.{bytes, allHold}
 use Rattle.ident.specs.Identifier.{shapeOf, weighted, endsRight, rightId}
 use Rattle.ident.specs.Calls.{partsOf}
+use Rattle.psc.specs.Table.{risesFrom, rightTable, holds}
 use Rattle.layout.specs.Layout.{widths, fieldOf}
 use Rattle.fields.specs.Frame.{framed}
 use Rattle.fields.specs.Dates.{daysIn, readDate, readTime}
@@ -21,7 +22,7 @@ use Rattle.fields.specs.Texts.{filled, contains, isHost, isMail}
 use Rattle.fields.specs.Amounts.{isMoney}
 use Rattle.fields.specs.Services.{codesFrom, hasCode, withCode, added, readServices}
 use Rattle.fields.specs.Examples.{inField}
-use Rattle.record.specs.Rules.{askedOf, givenOf, travelOf, table, recordAnswer}
+use Rattle.record.specs.Rules.{inFile, toPost, askedOf, givenOf, travelOf, table, recordAnswer, checkAnswer}
 use Rattle.record.specs.BlankAbroad.{tableBlankAbroad, answerBlankAbroad}
 
 -- ---- a record from the texts of its fields, each with spaces behind to its width
@@ -87,34 +88,47 @@ cancelledParcel = parcel "BO0100010045F" "Eva" "0 "
 unfoldable pub answers : ℕ → ℕ → Answer → Bool
 answers code place a = eqb (a .code) code && eqb (a .place) place
 
+-- the postcodes of these records
+abbrev pub listed : List ℕ
+listed = 11000 ∷ 60200 ∷ []
+
 unfoldable pub claims : List Bool
 claims =
-    answers 0 0 (recordAnswer true firstPiece)
+    answers 0 0 (checkAnswer true listed firstPiece)
     ∷ sameBytes firstPiece firstPieceWrittenOut
-    ∷ answers 0 0 (recordAnswer true domestic)
-    ∷ answers 0 0 (recordAnswer true (sentTo "11000" ""))  -- at home
-    ∷ answers 27 5 (recordAnswer true (sentTo "" ""))
-    ∷ answers 210 5 (recordAnswer true (sentTo "1030" ""))
-    ∷ answers 0 0 (recordAnswer true (sentTo "" "AT"))  -- abroad
-    ∷ answers 0 0 (recordAnswer true (sentTo "1030" "AT"))
-    ∷ answers 0 0 (recordAnswer true (sentTo "W1 2" "GB"))
-    ∷ answers 210 5 (recordAnswer true (sentTo " 1030" "AT"))
-    ∷ answers 210 6 (recordAnswer true (sentTo "1030" "at"))  -- beside a malformed country
-    ∷ answers 210 6 (recordAnswer true (sentTo "" "CZ"))
-    ∷ answers 210 5 (recordAnswer true (sentTo " 1030" "at"))
-    ∷ answers 0 0 (answerBlankAbroad true (sentTo "11000" ""))  -- as it was
-    ∷ answers 0 0 (answerBlankAbroad true (sentTo "" "AT"))
-    ∷ answers 27 5 (answerBlankAbroad true (sentTo "11000" "AT"))
-    ∷ answers 210 5 (answerBlankAbroad true (sentTo "1030" "AT"))
-    ∷ answers 0 0 (answerBlankAbroad false cancelledParcel)
-    ∷ answers 0 0 (recordAnswer true cashOnDelivery)
-    ∷ answers 0 0 (recordAnswer true secondPiece)
-    ∷ answers 0 0 (recordAnswer false cancelledParcel)
-    ∷ answers 210 19 (recordAnswer true cancelledParcel)
-    ∷ answers 31 15 (recordAnswer true (weighingNothing "10.00" "41" "0000000001"))
-    ∷ answers 34 15 (recordAnswer true (weighingNothing "10.00" "2" ""))
+    ∷ answers 0 0 (checkAnswer true listed domestic)
+    ∷ answers 0 0 (checkAnswer true listed (sentTo "11000" ""))  -- at home
+    ∷ answers 27 5 (checkAnswer true listed (sentTo "" ""))
+    ∷ answers 210 5 (checkAnswer true listed (sentTo "1030" ""))
+    ∷ answers 0 0 (checkAnswer true listed (sentTo "" "AT"))  -- abroad
+    ∷ answers 0 0 (checkAnswer true listed (sentTo "1030" "AT"))
+    ∷ answers 0 0 (checkAnswer true listed (sentTo "W1 2" "GB"))
+    ∷ answers 210 5 (checkAnswer true listed (sentTo " 1030" "AT"))
+    ∷ answers 210 6 (checkAnswer true listed (sentTo "1030" "at"))  -- beside a malformed country
+    ∷ answers 210 6 (checkAnswer true listed (sentTo "" "CZ"))
+    ∷ answers 210 5 (checkAnswer true listed (sentTo " 1030" "at"))
+    ∷ answers 0 0 (answerBlankAbroad (toPost (holds listed)) (sentTo "11000" ""))  -- as it was
+    ∷ answers 0 0 (answerBlankAbroad (toPost (holds listed)) (sentTo "" "AT"))
+    ∷ answers 27 5 (answerBlankAbroad (toPost (holds listed)) (sentTo "11000" "AT"))
+    ∷ answers 210 5 (answerBlankAbroad (toPost (holds listed)) (sentTo "1030" "AT"))
+    ∷ answers 0 0 (answerBlankAbroad (inFile (holds listed)) cancelledParcel)
+    ∷ answers 0 0 (checkAnswer true listed cashOnDelivery)
+    ∷ answers 0 0 (checkAnswer true listed secondPiece)
+    ∷ answers 0 0 (checkAnswer false listed cancelledParcel)
+    ∷ answers 210 19 (checkAnswer true listed cancelledParcel)
+    ∷ answers 31 15 (checkAnswer true listed (weighingNothing "10.00" "41" "0000000001"))
+    ∷ answers 34 15 (checkAnswer true listed (weighingNothing "10.00" "2" ""))
+    ∷ answers 24 5 (checkAnswer true (60200 ∷ []) domestic)  -- postcodes that do not exist
+    ∷ answers 24 5 (checkAnswer true [] domestic)
+    ∷ answers 21 5 (checkAnswer true (11000 ∷ []) cashOnDelivery)
+    ∷ answers 24 5 (checkAnswer true [] (weighingNothing "10.00" "2" ""))
+    ∷ answers 27 5 (checkAnswer true [] (sentTo "" ""))
+    ∷ answers 0 0 (checkAnswer true [] (sentTo "11000" "AT"))  -- abroad
+    ∷ answers 238 0 (checkAnswer true (11000 ∷ 11000 ∷ []) domestic)  -- wrong tables
+    ∷ answers 238 0 (checkAnswer false (100000 ∷ []) [])
+    ∷ answers 236 0 (checkAnswer false listed [])
     ∷ []
 
 pub shown : allHold claims ≡ true
-unfolding bytes allHold every run numberAfter sameBytes shapeOf weighted endsRight rightId partsOf fieldOf framed daysIn readDate readTime filled contains isHost isMail isMoney codesFrom hasCode withCode added readServices askedOf givenOf travelOf table recordAnswer tableBlankAbroad answerBlankAbroad inField laidOut recordOf parcel domestic sentTo cashOnDelivery firstPiece firstPieceWrittenOut secondPiece cancelledParcel weighingNothing answers claims
+unfolding risesFrom rightTable holds bytes allHold every run numberAfter sameBytes shapeOf weighted endsRight rightId partsOf fieldOf framed daysIn readDate readTime filled contains isHost isMail isMoney codesFrom hasCode withCode added readServices askedOf givenOf travelOf table recordAnswer checkAnswer tableBlankAbroad answerBlankAbroad inField laidOut recordOf parcel domestic sentTo cashOnDelivery firstPiece firstPieceWrittenOut secondPiece cancelledParcel weighingNothing answers claims
 shown = refl

@@ -1,5 +1,5 @@
 -- What a record's answer means, in the paper's words: 0 exactly if none of the conditions holds; otherwise the first that holds, with its place. And
--- when the weight is missing, for which there are two codes, and what is wrong with an address.
+-- what is wrong with an address, and when a postcode does not exist and the weight is missing, for each of which there are two codes.
 -- Assumes nothing.
 use Prim.Native.Nat.{ℕ}
 use mathlib.Core.Path.{_≡_}
@@ -10,14 +10,15 @@ use lib.ListN.{length, replicate}
 use Rattle.text.specs.declared.Answer.{Answer}
 use Rattle.text.specs.Answers.{answer, accepted}
 use Rattle.layout.specs.Layout.{widthOf, fieldOf}
+use Rattle.psc.specs.Table.{Known}
 use Rattle.fields.specs.Texts.{malformedText, absentText}
 use Rattle.fields.specs.Others.{readCountry, malformedCountry, absentCountry}
 use Rattle.fields.specs.Postcodes.{malformedPostcode, absentPostcode}
 use Rattle.fields.specs.Amounts.{absentOrZeroWeight}
-use Rattle.fields.specs.Meanings.{GoodPostcode}
+use Rattle.fields.specs.Meanings.{IsDigits, GoodPostcode}
 use Rattle.record.specs.Table.{Case, Rule, at, placesFrom, broken}
 use Rattle.record.specs.Readings.{whenOf, addressOf, goodsOf}
-use Rattle.record.specs.Rules.{whenFlags, identifierRule, formRules, addressRule}
+use Rattle.record.specs.Rules.{Terms, terms, whenFlags, asksFor, identifierRule, formRules, addressRule, postcodeRules}
 
 -- ---- no case, no rule of a list holds
 unfoldable pub noCase : List Case → Bool
@@ -56,12 +57,6 @@ pub record ExactlyAt (code place : ℕ) (condition : Type 0) (a : Answer) : Type
   pub when : (a .code ≡ code) ↔ condition
   pub there : a .code ≡ code → a .place ≡ place
 
--- ---- the weight is missing: 399 bytes that break no rule before its turn, and it is absent or zero
-pub record WeightMissing (toBePosted : Bool) (rec : List ℕ) : Type 0 where
-  pub long : length rec ≡ 399
-  pub its-turn : noneBroken (formRules toBePosted rec ++ addressRule (addressOf rec) ∷ []) ≡ true
-  pub missing : absentOrZeroWeight (goodsOf rec .weight) ≡ true
-
 -- ---- one case of a rule in its turn: 399 bytes that break no rule before it, no earlier case of the rule holds, and it does
 pub record InItsTurn (rec : List ℕ) (before : List Rule) (earlier : List Case) (condition : Type 0) : Type 0 where
   pub long : length rec ≡ 399
@@ -96,3 +91,31 @@ MunicipalityMissing toBePosted rec =
     InItsTurn rec (formRules toBePosted rec)
     (at 4 (absentText (addressOf rec .name)) ∷ at 5 (absentCountry (addressOf rec .country) && absentPostcode (addressOf rec .postcode)) ∷ [])
     (Blank rec 7)
+
+-- ---- 21 and 24: a domestic postcode that doesn't exist; the country is blank, and the number that the five digits write is not known
+pub record NotKnown (known : Known) (rec : List ℕ) : Type 0 where
+  pub number : ℕ
+  pub home : Blank rec 6
+  pub digits : IsDigits 5 (fieldOf rec 5) number
+  pub unknown : known number ≡ false
+
+-- behind the form of the fields and 27
+abbrev pub beforePostcode : Bool → List ℕ → List Rule
+beforePostcode toBePosted rec = formRules toBePosted rec ++ addressRule (addressOf rec) ∷ []
+
+abbrev pub PostcodeNotKnown : Terms → List ℕ → Type 0
+PostcodeNotKnown t rec = InItsTurn rec (beforePostcode (t .toBePosted) rec) [] (NotKnown (t .known) rec)
+
+-- ---- 31 and 34: the weight is missing, absent or zero; behind 21 and 24
+abbrev pub beforeWeight : Terms → List ℕ → List Rule
+beforeWeight t rec = beforePostcode (t .toBePosted) rec ++ postcodeRules (t .known) (addressOf rec .postcode) (asksFor rec 41)
+
+abbrev pub WeightMissing : Terms → List ℕ → Type 0
+WeightMissing t rec = InItsTurn rec (beforeWeight t rec) [] (absentOrZeroWeight (goodsOf rec .weight) ≡ true)
+
+-- ---- every postcode exists: as it was before there was a table
+abbrev pub anyPostcode : Known
+anyPostcode n = true
+
+abbrev pub withAnyPostcode : Terms → Terms
+withAnyPostcode t = terms (t .toBePosted) anyPostcode

@@ -10,8 +10,11 @@ use Rattle.text.specs.Answers.{wrongLength}
 use Rattle.text.specs.Lists.{sameBytes}
 use Rattle.ident.specs.Identifier.{rightId}
 use Rattle.layout.specs.Layout.{fieldOf}
+use Rattle.psc.specs.Table.{rightTable, wrongTable, Known, holds}
 use Rattle.fields.specs.declared.amounts.WeightReading.{WeightReading}
 use Rattle.fields.specs.declared.services.Services.{Services}
+use Rattle.fields.specs.declared.postcodes.PostcodeReading.{PostcodeReading}
+use Rattle.fields.specs.declared.postcodes.PostcodeReading.the-variants as Postcode
 use Rattle.fields.specs.Dates.{malformedDate, malformedTime}
 use Rattle.fields.specs.Texts.{malformedText, absentText}
 use Rattle.fields.specs.Numbers.{malformedNumber, absentNumber, numberIn}
@@ -32,6 +35,21 @@ use Rattle.record.specs.declared.rules.Given.{Given}
 use Rattle.record.specs.declared.rules.Travel.{Travel}
 use Rattle.record.specs.Table.{Case, Rule, at, rule, placesFrom, verdict}
 use Rattle.record.specs.Readings.{whenOf, addressOf, streetOf, contactOf, goodsOf, marksOf, pieceOf, tailOf, malformedStatus}
+
+-- ---- what a record is judged by beside its bytes: whether it is to be posted, and which postcodes exist
+pub record Terms : Type 0 where
+  pub toBePosted : Bool
+  pub known : Known
+
+abbrev pub terms : Bool → Known → Terms
+terms toBePosted known = record { toBePosted = toBePosted; known = known }
+
+-- in a file, and to be posted
+abbrev pub inFile : Known → Terms
+inFile = terms false
+
+abbrev pub toPost : Known → Terms
+toPost = terms true
 
 -- ---- which fields are malformed
 abbrev pub whenFlags : When → List Bool
@@ -150,12 +168,23 @@ addressRule a =
     ∷ at 7 (absentText (a .municipality))
     ∷ [])
 
--- weight absent or zero: 31 where service 41 is present, 34 otherwise
+-- one break with two codes at one place: the first where service 41 is present, the second otherwise
+abbrev pub twoCodes : ℕ → ℕ → ℕ → Bool → Bool → List Rule
+twoCodes with41 without place b service41 = rule with41 (at place (b && service41) ∷ []) ∷ rule without (at place (b && not service41) ∷ []) ∷ []
+
+-- a domestic postcode that doesn't exist; a foreign one is not looked up
+abbrev pub unlisted : Known → PostcodeReading → Bool
+unlisted known Postcode.Absent = false
+unlisted known (Postcode.Domestic n) = not (known n)
+unlisted known (Postcode.Foreign n) = false
+unlisted known Postcode.Malformed = false
+
+abbrev pub postcodeRules : Known → PostcodeReading → Bool → List Rule
+postcodeRules known p service41 = twoCodes 21 24 5 (unlisted known p) service41
+
+-- weight absent or zero
 abbrev pub weightRules : WeightReading → Bool → List Rule
-weightRules w service41 =
-    rule 31 (at 15 (absentOrZeroWeight w && service41) ∷ [])
-    ∷ rule 34 (at 15 (absentOrZeroWeight w && not service41) ∷ [])
-    ∷ []
+weightRules w service41 = twoCodes 31 34 15 (absentOrZeroWeight w) service41
 
 abbrev pub serviceRules : Asked → Given → Travel → List Rule
 serviceRules s f p =
@@ -181,20 +210,24 @@ serviceRules s f p =
     ∷ [])
     ∷ []
 
--- the rules behind the address
+-- the rules behind the postcode
 abbrev pub laterRules : List ℕ → Contact → Goods → Marks → Piece → List Rule
 laterRules rec c g m p = weightRules (g .weight) (askedIn g .service41) ++ serviceRules (askedIn g) (givenOf c g m) (travelOf rec p)
 
-abbrev pub contentOf : List ℕ → Address → Contact → Goods → Marks → Piece → List Rule
-contentOf rec a c g m p = addressRule a ∷ laterRules rec c g m p
+abbrev pub contentOf : Known → List ℕ → Address → Contact → Goods → Marks → Piece → List Rule
+contentOf known rec a c g m p = addressRule a ∷ (postcodeRules known (a .postcode) (askedIn g .service41) ++ laterRules rec c g m p)
 
-abbrev pub contentRules : List ℕ → List Rule
-contentRules rec = contentOf rec (addressOf rec) (contactOf rec) (goodsOf rec) (marksOf rec) (pieceOf rec)
+abbrev pub contentRules : Known → List ℕ → List Rule
+contentRules known rec = contentOf known rec (addressOf rec) (contactOf rec) (goodsOf rec) (marksOf rec) (pieceOf rec)
 
--- all twelve rules, in the paper's order
-unfoldable pub table : Bool → List ℕ → List Rule
-table toBePosted rec = formRules toBePosted rec ++ contentRules rec
+-- all fourteen rules, in the paper's order
+unfoldable pub table : Terms → List ℕ → List Rule
+table t rec = formRules (t .toBePosted) rec ++ contentRules (t .known) rec
 
 -- ---- the answer: 236 for another length, else the table's
-unfoldable pub recordAnswer : Bool → List ℕ → Answer
-recordAnswer toBePosted rec = cond (eqb (length rec) 399) (verdict (table toBePosted rec)) wrongLength
+unfoldable pub recordAnswer : Terms → List ℕ → Answer
+recordAnswer t rec = cond (eqb (length rec) 399) (verdict (table t rec)) wrongLength
+
+-- ---- what the record check and the check for posting answer under a lent table of postcodes: 238 first
+unfoldable pub checkAnswer : Bool → List ℕ → List ℕ → Answer
+checkAnswer toBePosted psc rec = cond (rightTable psc) (recordAnswer (terms toBePosted (holds psc)) rec) wrongTable

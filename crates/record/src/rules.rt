@@ -1,13 +1,14 @@
 // The rules, in the paper's order: those on the form of the fields, then those on what the fields say.
 ghost use mathlib.Core.Path.{_≡_};
+ghost use mathlib.Core.Bool.{true};
 ghost use mathlib.Core.List.{[], _∷_};
 ghost use Prim.Native.Nat.{_+_, _<_};
 ghost use lib.ListN.{length, getD};
-ghost use Rattle.fields.specs.declared.amounts.WeightReading.the-variants as Weight;
+ghost use Rattle.psc.specs.Search.{found};
 ghost use Rattle.record.specs.Table.{rule, placesFrom, verdict};
 ghost use Rattle.record.specs.Columns.{whens};
 ghost use Rattle.record.specs.Readings.{whenOf, streetOf, tailOf, malformedStatus};
-ghost use Rattle.record.specs.Rules.{whenFlags, addressFlags, streetFlags, contactFlags, goodsFlags, marksFlags, pieceFlags, tailFlags, earlyFlags, lateFlags, askedOf, givenOf, isSetPrefix, travelOf, identifierRule, formOf, contentOf, addressRule, weightRules, serviceRules};
+ghost use Rattle.record.specs.Rules.{whenFlags, addressFlags, streetFlags, contactFlags, goodsFlags, marksFlags, pieceFlags, tailFlags, earlyFlags, lateFlags, askedOf, givenOf, isSetPrefix, travelOf, identifierRule, formOf, contentOf, addressRule, twoCodes, postcodeRules, weightRules, serviceRules};
 use crate::columns::first_true;
 use crate::readings::Address;
 use crate::readings::Contact;
@@ -20,6 +21,7 @@ use crate::readings::When;
 use crate::readings::read_street;
 use crate::readings::read_tail;
 use crate::readings::read_when;
+use fields::PostcodeReading;
 use fields::Services;
 use fields::StatusReading;
 use fields::WeightReading;
@@ -202,7 +204,7 @@ pub(crate) fn form_answer(
     identifier_answer(rec).or_else(rest)
 }
 
-// ---- 27, 31 and 34: address and weight
+// ---- 27, 21, 24, 31 and 34: address, postcode and weight
 
 // Code 27: name or municipality blank, or at home the postcode.
 fn address_answer(a: Address) -> Answer
@@ -225,12 +227,26 @@ fn address_answer(a: Address) -> Answer
     ACCEPTED
 }
 
-// The refusal of a missing weight: it has a code of its own under service 41.
-fn weightless(service41: bool) -> Answer
-    ensures { λ r. ⌜ r ≡ verdict (weightRules Weight.Absent service41) ⌝ }
+// A refusal that has a code of its own under service 41.
+fn two_codes(with41: u32, without: u32, place: u32, service41: bool) -> Answer
+    ensures { λ r. ⌜ r ≡ verdict (twoCodes with41 without place true service41) ⌝ }
 {
-    let code = if service41 { 31 } else { 34 };
-    Answer { code, place: 15 }
+    let code = if service41 { with41 } else { without };
+    Answer { code, place }
+}
+
+// Codes 21 and 24: a domestic postcode that is not in the table. A foreign one is not looked up.
+fn postcode_answer(postcode: PostcodeReading, psc: &[u32], service41: bool) -> Answer
+    ensures { λ r. ⌜ r ≡ verdict (postcodeRules (found (now (psc .entry))) postcode service41) ⌝ }
+{
+    let PostcodeReading::Domestic(n) = postcode else {
+        return ACCEPTED;
+    };
+    if psc::find(psc, n) {
+        ACCEPTED
+    } else {
+        two_codes(21, 24, 5, service41)
+    }
 }
 
 // Codes 31 and 34: weight absent or zero.
@@ -238,10 +254,10 @@ fn weight_answer(weight: WeightReading, service41: bool) -> Answer
     ensures { λ r. ⌜ r ≡ verdict (weightRules weight service41) ⌝ }
 {
     let WeightReading::Value(grams) = weight else {
-        return weightless(service41);
+        return two_codes(31, 34, 15, service41);
     };
     if grams.0 == 0 {
-        weightless(service41)
+        two_codes(31, 34, 15, service41)
     } else {
         ACCEPTED
     }
@@ -455,9 +471,11 @@ pub(crate) fn content_answer(
     goods: Goods,
     marks: Marks,
     piece: Piece,
+    psc: &[u32],
 ) -> Answer
-    ensures { λ r. ⌜ r ≡ verdict (contentOf (now (rec .entry)) address contact goods marks piece) ⌝ }
+    ensures { λ r. ⌜ r ≡ verdict (contentOf (found (now (psc .entry))) (now (rec .entry)) address contact goods marks piece) ⌝ }
 {
+    let postcode = address.postcode;
     let weight = goods.weight;
     let services = goods.services;
     let asked = asked_of(services.services());
@@ -468,5 +486,6 @@ pub(crate) fn content_answer(
         travel_of(rec, piece),
     );
     let rest = weight_answer(weight, service41).or_else(last);
+    let rest = postcode_answer(postcode, psc, service41).or_else(rest);
     address_answer(address).or_else(rest)
 }

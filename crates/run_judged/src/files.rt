@@ -1,4 +1,4 @@
-// A whole file for each item. The line has the seven numbers of the file check, or of the closing check the first three.
+// A whole file behind the table of each item. The line has the seven numbers of the file check, or of the closing check the first three.
 ghost use Prim.Native.Nat.{_<_};
 ghost use lib.ListN.{length};
 ghost use Rattle.io.specs.Counts.{Counts};
@@ -22,11 +22,11 @@ fn print_closing_answer(answer: FileAnswer) -> bool {
     )
 }
 
-fn answer_file(file: &[u8], to_close: bool) -> bool {
+fn answer_file(file: &[u8], psc: &[u32], to_close: bool) -> bool {
     if to_close {
-        print_closing_answer(closing::check(file))
+        print_closing_answer(closing::check(file, psc))
     } else {
-        print_file_answer(posting::check(file))
+        print_file_answer(posting::check(file, psc))
     }
 }
 
@@ -43,16 +43,23 @@ fn bytes_to_ask(size: usize, bytes: &[u8]) -> usize
     }
 }
 
-fn answer_in(fd: i32, size: usize, path: &[u8], to_close: bool, bytes: &mut [u8]) -> bool
+fn answer_in(
+    fd: i32,
+    size: usize,
+    path: &[u8],
+    psc: &[u32],
+    to_close: bool,
+    bytes: &mut [u8],
+) -> bool
     requires { ⌜ 401400 < length (now bytes) ⌝ }
 {
     let taken = items::take_item(fd, size, path, bytes);
     let n = bytes_to_ask(size, bytes);
-    taken.whole && answer_file(&bytes[..n], to_close)
+    taken.whole && answer_file(&bytes[..n], psc, to_close)
 }
 
 // Room for 1,000 records and the most that can be left over; all of it is lent on.
-pub(crate) fn answer(fd: i32, size: usize, path: &[u8], to_close: bool) -> bool {
+pub(crate) fn answer(fd: i32, size: usize, path: &[u8], psc: &[u32], to_close: bool) -> bool {
     let mut bytes = [0u8; 401401];
-    answer_in(fd, size, path, to_close, &mut bytes)
+    answer_in(fd, size, path, psc, to_close, &mut bytes)
 }

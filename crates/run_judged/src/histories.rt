@@ -1,10 +1,13 @@
-// A history of one batch: the lengths of its two buffers, four bytes each, then calls, each a byte that says which and an item.
+// A history of one batch: the lengths of its two buffers, four bytes each, a table, then calls, each a byte that says which and an item.
 // After each call a line tells its answer, the counts and the sums of the buffers.
 ghost use Prim.Native.Nat.{_≤_, _<_};
+ghost use mathlib.Core.Path.{_≡_};
+ghost use lib.ListN.{length};
 use crate::items;
 use crate::items::broken;
 use crate::printing::adler;
 use crate::printing::print_line;
+use crate::tables;
 use batch::Counts;
 use batch::Outcome;
 use fields::Hellers;
@@ -18,10 +21,12 @@ struct Head {
     length: usize,
 }
 
-// How many bytes of a history were answered, 0 where there is nothing to go on with, and the counts behind them.
+// How many bytes of a history were answered, 0 where there is nothing to go on with; and behind them the counts, and how many entries the
+// table has.
 struct Turn {
     taken: usize,
     counts: Counts,
+    entries: usize,
 }
 
 // ---- what is changed behind the batch's back
@@ -70,13 +75,20 @@ fn spoiled(counts: Counts) -> Outcome {
 
 // ---- the calls
 
-fn serve(op: u8, file: &mut [u8], journal: &mut [u8], c: Counts, item: &[u8]) -> Outcome {
+fn serve(
+    op: u8,
+    file: &mut [u8],
+    journal: &mut [u8],
+    c: Counts,
+    item: &[u8],
+    psc: &[u32],
+) -> Outcome {
     match op {
         0 => batch::open(file, journal),
-        1 => batch::add(file, journal, c, item),
-        2 => batch::cancel(file, journal, c, item),
-        3 => batch::amend(file, journal, c, item),
-        4 => batch::undo(file, journal, c),
+        1 => batch::add(file, journal, c, item, psc),
+        2 => batch::cancel(file, journal, c, item, psc),
+        3 => batch::amend(file, journal, c, item, psc),
+        4 => batch::undo(file, journal, c, psc),
         5 => {
             set_byte(file, item);
             spoiled(c)
@@ -116,7 +128,7 @@ fn call_length(op: u8, size: usize, left: usize) -> usize
     requires { ⌜ size < 4294967296 ⌝ }
     ensures { λ r. ⌜ r ≤ left ⌝ }
 {
-    if 7 < op || left < size + 5 {
+    if 8 < op || left < size + 5 {
         return 0;
     }
     size + 5
@@ -143,22 +155,76 @@ fn next_call(fd: i32, left: usize) -> Head
     }
 }
 
-// Serves a call whose item is in the buffer, and prints its line.
-fn answer_taken(head: Head, file: &mut [u8], journal: &mut [u8], c: Counts, item: &[u8]) -> Turn
-    ensures { λ r. ⌜ r .taken ≤ head .length ⌝ }
+// The turn of a call whose line was printed, or could not be.
+fn turn_of(printed: bool, head: Head, counts: Counts, entries: usize) -> Turn
+    ensures { λ r. ⌜ (r .taken ≤ head .length) × (r .entries ≡ entries) ⌝ }
 {
-    let outcome = serve(head.op, file, journal, c, item);
-    if !print_outcome(outcome, file, journal) {
-        return Turn {
-            taken: 0,
-            counts: c,
-        };
-    }
-    let counts = outcome.counts;
     Turn {
-        taken: head.length,
+        taken: if printed { head.length } else { 0 },
         counts,
+        entries,
     }
+}
+
+// Call 8: the table in its item holds from now on. What stands behind that there is passed over.
+fn set_table(
+    fd: i32,
+    head: Head,
+    path: &[u8],
+    file: &[u8],
+    journal: &[u8],
+    table: &mut [u32],
+    c: Counts,
+) -> Turn
+    ensures { λ r. ⌜ (r .taken ≤ head .length) × (r .entries ≤ length (now (table .exit))) ⌝ }
+{
+    let front = tables::take(fd, head.size, path, table);
+    let read = front.whole && (items::skip(fd, front.left) || broken(path));
+    turn_of(
+        read && print_outcome(spoiled(c), file, journal),
+        head,
+        c,
+        front.entries,
+    )
+}
+
+// Serves a call whose item is in the buffer, and prints its line.
+fn answer_taken(
+    head: Head,
+    file: &mut [u8],
+    journal: &mut [u8],
+    c: Counts,
+    item: &[u8],
+    psc: &[u32],
+) -> Turn
+    ensures { λ r. ⌜ (r .taken ≤ head .length) × (r .entries ≡ length (now (psc .entry))) ⌝ }
+{
+    let outcome = serve(head.op, file, journal, c, item, psc);
+    let printed = print_outcome(outcome, file, journal);
+    let counts = outcome.counts;
+    turn_of(printed, head, counts, psc.len())
+}
+
+// Reads the item of any other call, and answers it by the table that holds.
+fn answer_other(
+    fd: i32,
+    head: Head,
+    path: &[u8],
+    file: &mut [u8],
+    journal: &mut [u8],
+    c: Counts,
+    psc: &[u32],
+) -> Turn
+    ensures { λ r. ⌜ (r .taken ≤ head .length) × (r .entries ≡ length (now (psc .entry))) ⌝ }
+{
+    // One byte more than a record has: what is longer is none, and no identifier either, whatever follows.
+    let mut item = [0u8; 400];
+    let taken = items::take_item(fd, head.size, path, &mut item);
+    let n = taken.put;
+    if !taken.whole {
+        return turn_of(false, head, c, psc.len());
+    }
+    answer_taken(head, file, journal, c, &item[..n], psc)
 }
 
 fn answer_call(
@@ -167,29 +233,21 @@ fn answer_call(
     path: &[u8],
     file: &mut [u8],
     journal: &mut [u8],
+    table: &mut [u32],
+    entries: usize,
     c: Counts,
 ) -> Turn
-    ensures { λ r. ⌜ r .taken ≤ left ⌝ }
+    requires { ⌜ entries ≤ length (now table) ⌝ }
+    ensures { λ r. ⌜ (r .taken ≤ left) × (r .entries ≤ length (now (table .exit))) ⌝ }
 {
     let head = next_call(fd, left);
     if head.length == 0 {
-        broken(path);
-        return Turn {
-            taken: 0,
-            counts: c,
-        };
+        return turn_of(broken(path), head, c, entries);
     }
-    // One byte more than a record has: what is longer is none, and no identifier either, whatever follows.
-    let mut item = [0u8; 400];
-    let taken = items::take_item(fd, head.size, path, &mut item);
-    let n = taken.put;
-    if !taken.whole {
-        return Turn {
-            taken: 0,
-            counts: c,
-        };
+    if head.op == 8 {
+        return set_table(fd, head, path, file, journal, table, c);
     }
-    answer_taken(head, file, journal, c, &item[..n])
+    answer_other(fd, head, path, file, journal, c, &table[..entries])
 }
 
 fn no_counts() -> Counts {
@@ -206,28 +264,50 @@ fn no_counts() -> Counts {
     }
 }
 
-fn answer_calls(fd: i32, size: usize, path: &[u8], file: &mut [u8], journal: &mut [u8]) -> bool {
-    let mut left = size;
+// Reads the table that stands before the calls, and answers them. Where it is not whole, nothing is left.
+fn answer_calls(
+    fd: i32,
+    size: usize,
+    path: &[u8],
+    file: &mut [u8],
+    journal: &mut [u8],
+    table: &mut [u32],
+) -> bool {
+    let front = tables::take(fd, size, path, table);
+    let mut left = front.left;
     let mut counts = no_counts();
+    let mut entries = front.entries;
     while 0 < left {
-        let turn = answer_call(fd, left, path, file, journal, counts);
+        let turn = answer_call(fd, left, path, file, journal, table, entries, counts);
         if turn.taken == 0 {
             return false;
         }
         left -= turn.taken;
         counts = turn.counts;
+        entries = turn.entries;
     }
-    true
+    front.whole
 }
 
 // ---- the buffers
+
+fn answer_with_table(
+    fd: i32,
+    size: usize,
+    path: &[u8],
+    file: &mut [u8],
+    journal: &mut [u8],
+) -> bool {
+    let mut table = [0u32; tables::PLACES];
+    answer_calls(fd, size, path, file, journal, &mut table)
+}
 
 // Each byte of the file is 7 before the first call.
 fn answer_with_file(fd: i32, size: usize, path: &[u8], n: usize, journal: &mut [u8]) -> bool
     requires { ⌜ n ≤ 401000 ⌝ }
 {
     let mut file = [7u8; 401000];
-    answer_calls(fd, size, path, &mut file[..n], journal)
+    answer_with_table(fd, size, path, &mut file[..n], journal)
 }
 
 // The journal is zeros before the first call.

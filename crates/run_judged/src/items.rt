@@ -113,7 +113,7 @@ fn skip_some(fd: i32, count: usize) -> usize
 }
 
 // Reads past so many bytes; false where the file has fewer.
-fn skip(fd: i32, count: usize) -> bool {
+pub(crate) fn skip(fd: i32, count: usize) -> bool {
     let mut left = count;
     while 0 < left {
         let got = skip_some(fd, left);

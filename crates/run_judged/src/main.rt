@@ -5,18 +5,24 @@ mod histories;
 mod items;
 mod parts;
 mod printing;
+mod tables;
 
 use items::Next;
 use libc::ENOENT;
 use printing::print_answer;
 
-// What the items of a file are, and so which call answers them.
+// What stands behind the table of an item, and so which call answers it.
+enum Judged {
+    Record,
+    File,
+    FileToClose,
+}
+
+// What the items of a file are.
 enum Kind {
     Identifiers,
     Parts,
-    Records,
-    Files,
-    Closing,
+    UnderTable(Judged),
     Histories,
 }
 
@@ -31,21 +37,39 @@ fn answer_identifier(fd: i32, size: usize, path: &[u8]) -> bool {
     taken.whole && print_answer(ident::check(&bytes[..n]))
 }
 
-fn answer_record(fd: i32, size: usize, path: &[u8]) -> bool {
+fn answer_record(fd: i32, size: usize, path: &[u8], psc: &[u32]) -> bool {
     // One byte more than a record has, likewise.
     let mut bytes = [0u8; 400];
     let taken = items::take_item(fd, size, path, &mut bytes);
     let n = taken.put;
-    taken.whole && print_answer(record::check(&bytes[..n]))
+    taken.whole && print_answer(record::check(&bytes[..n], psc))
+}
+
+fn answer_judged(what: Judged, fd: i32, size: usize, path: &[u8], psc: &[u32]) -> bool {
+    match what {
+        Judged::Record => answer_record(fd, size, path, psc),
+        Judged::File => files::answer(fd, size, path, psc, false),
+        Judged::FileToClose => files::answer(fd, size, path, psc, true),
+    }
+}
+
+// Takes the table in front of an item, and answers what stands behind it.
+fn answer_behind(what: Judged, fd: i32, size: usize, path: &[u8], table: &mut [u32]) -> bool {
+    let front = tables::take(fd, size, path, table);
+    let n = front.entries;
+    front.whole && answer_judged(what, fd, front.left, path, &table[..n])
+}
+
+fn answer_under_table(what: Judged, fd: i32, size: usize, path: &[u8]) -> bool {
+    let mut table = [0u32; tables::PLACES];
+    answer_behind(what, fd, size, path, &mut table)
 }
 
 fn answer_item(kind: Kind, fd: i32, size: usize, path: &[u8]) -> bool {
     match kind {
         Kind::Identifiers => answer_identifier(fd, size, path),
         Kind::Parts => parts::answer(fd, size, path),
-        Kind::Records => answer_record(fd, size, path),
-        Kind::Files => files::answer(fd, size, path, false),
-        Kind::Closing => files::answer(fd, size, path, true),
+        Kind::UnderTable(what) => answer_under_table(what, fd, size, path),
         Kind::Histories => histories::answer(fd, size, path),
     }
 }
@@ -86,9 +110,9 @@ fn answer_all(kind: Kind, path: &[u8]) {
 fn main() {
     answer_all(Kind::Identifiers, b"identifiers.bin");
     answer_all(Kind::Parts, b"parts.bin");
-    answer_all(Kind::Records, b"records.bin");
-    answer_all(Kind::Files, b"files.bin");
-    answer_all(Kind::Closing, b"closing.bin");
+    answer_all(Kind::UnderTable(Judged::Record), b"records.bin");
+    answer_all(Kind::UnderTable(Judged::File), b"files.bin");
+    answer_all(Kind::UnderTable(Judged::FileToClose), b"closing.bin");
     answer_all(Kind::Histories, b"histories.bin");
-    answer_all(Kind::Records, b"rules.bin");
+    answer_all(Kind::UnderTable(Judged::Record), b"rules.bin");
 }

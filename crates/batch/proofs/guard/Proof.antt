@@ -1,7 +1,7 @@
 -- `batch::guard` meets its contract.
 -- Assumes nothing.
 use borrow.Author.Needs.{needs}
-use Rattle.batch.proofs.GuardWays.{guard-short, guard-long, guard-nothing, guard-found}
+use Rattle.batch.proofs.GuardWays.{guard-short, guard-long, guard-table, guard-nothing, guard-found}
 use Rattle.batch.proofs.guard.Statement.{statement}
 use Rattle.batch.proofs.guard.Tie as tie
 
@@ -11,15 +11,21 @@ right-lengths-requires c κs = search needs
 returns : tie.Need-returns
 returns c = search guard-short
 
+right-requires : tie.Need-right-requires
+right-requires c κs = search needs
+
+returns-2 : tie.Need-returns-2
+returns-2 c = search guard-table
+
 test-requires : tie.Need-test-requires
 test-requires c κs = search guard-long
 
-returns-2 : tie.Need-returns-2
-returns-2 c = search guard-nothing
-
 returns-3 : tie.Need-returns-3
-returns-3 c = search guard-found
+returns-3 c = search guard-nothing
+
+returns-4 : tie.Need-returns-4
+returns-4 c = search guard-found
 
 pub guard-spec : {M : Type 1} → statement M
 guard-spec =
-    tie.close (tie.spec right-lengths-requires returns test-requires returns-2 returns-3)
+    tie.close (tie.spec right-lengths-requires returns right-requires returns-2 test-requires returns-3 returns-4)

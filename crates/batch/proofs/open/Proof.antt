@@ -12,7 +12,7 @@ right-lengths-requires : tie.Need-right-lengths-requires
 right-lengths-requires c κs = search needs
 
 returns : tie.Need-returns
-returns c = search open-refused
+returns c psc = search open-refused
 
 fill-requires : tie.Need-fill-requires
 fill-requires c κs = search needs
@@ -27,7 +27,7 @@ same-length-2 : tie.Need-same-length-2
 same-length-2 c = search needs
 
 returns-2 : tie.Need-returns-2
-returns-2 c = search open-done
+returns-2 c psc = search open-done
 
 pub open-spec : {M : Type 1} → statement M
 open-spec =

@@ -18,7 +18,7 @@ same-length-2 : tie.Need-same-length-2
 same-length-2 c = search needs
 
 returns : tie.Need-returns
-returns c = search told
+returns c table = told (c .before .before .before .before .before .open .ensures table) (search needs)
 
 pub fuganorezi-batch-open-spec : {M : Type 1} → statement M
 fuganorezi-batch-open-spec =

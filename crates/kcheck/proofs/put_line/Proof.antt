@@ -1,18 +1,64 @@
 -- `kcheck::put_line` meets its contract.
 -- Assumes nothing.
 use borrow.Author.Needs.{needs}
-use Rattle.posting.proofs.ReportWays.{whole-line}
+use Rattle.psc.proofs.ReadLaws.{read-long, read-within}
+use Rattle.kcheck.proofs.Ways.{line-refused, line-put}
 use Rattle.kcheck.proofs.put_line.Statement.{statement}
 use Rattle.kcheck.proofs.put_line.Tie as tie
 
-report-input-requires : tie.Need-report-input-requires
-report-input-requires c κs = search needs
+read-requires : tie.Need-read-requires
+read-requires c κs = search needs
+
+table-refused-requires : tie.Need-table-refused-requires
+table-refused-requires c κs = search needs
+
+put-report-requires : tie.Need-put-report-requires
+put-report-requires c κs = search needs
 
 same-length : tie.Need-same-length
 same-length c = search needs
 
+same-length-2 : tie.Need-same-length-2
+same-length-2 c = search needs
+
 returns : tie.Need-returns
-returns c = search whole-line
+returns c =
+    let at-read = c .before .before .before .before .before .before .before .before .before .before in
+    line-refused _ _ _ _ _ (at-read .read .ensures) _ _ _ (at-read .before .before .before .before .before .before .pre) _ (c .before .before .before .before .before .if1 .taken) (c .before .before .before .before .table-refused .ensures) (c .before .before .put-report .ensures)
+
+slice-reshare-prefix-report-input : tie.Need-slice-reshare-prefix-report-input
+slice-reshare-prefix-report-input c = search read-within
+
+slice-aggregate-report-input : tie.Need-slice-aggregate-report-input
+slice-aggregate-report-input c = search read-long
+
+report-input-requires : tie.Need-report-input-requires
+report-input-requires c κs = search needs
+
+same-length-3 : tie.Need-same-length-3
+same-length-3 c = search needs
+
+same-length-4 : tie.Need-same-length-4
+same-length-4 c = search needs
+
+returns-2 : tie.Need-returns-2
+returns-2 c =
+    let at-read = c .before .before .before .before .before .before .before .before .before .before in
+    line-put _ _ _ _ _ (at-read .read .ensures) _ _ _ (at-read .before .before .before .before .before .before .pre) (c .before .before .before .before .before .if1 .left) (c .before .before .report-input .ensures)
 
 pub put-line-spec : {M : Type 1} → statement M
-put-line-spec = tie.close (tie.spec report-input-requires same-length returns)
+put-line-spec =
+    tie.close
+    (tie.spec
+    read-requires
+    table-refused-requires
+    put-report-requires
+    same-length
+    same-length-2
+    returns
+    slice-reshare-prefix-report-input
+    slice-aggregate-report-input
+    report-input-requires
+    same-length-3
+    same-length-4
+    returns-2)

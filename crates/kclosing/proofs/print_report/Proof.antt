@@ -1,4 +1,4 @@
--- `kclosing::print_report` meets its contract: the buffer has room for every line, and the line that is written is within it.
+-- `kclosing::print_report` meets its contract: the buffers have room for every table and every line, and the line that is written is within its own.
 -- Assumes nothing.
 use borrow.Author.Needs.{needs}
 use Rattle.posting.proofs.ReportWays.{line-within, line-front}
@@ -7,6 +7,9 @@ use Rattle.kclosing.proofs.print_report.Tie as tie
 
 slice-aggregate-put-line : tie.Need-slice-aggregate-put-line
 slice-aggregate-put-line c = search needs
+
+slice-aggregate-put-line-2 : tie.Need-slice-aggregate-put-line-2
+slice-aggregate-put-line-2 c = search needs
 
 put-line-requires : tie.Need-put-line-requires
 put-line-requires c κs = search needs
@@ -37,6 +40,7 @@ print-report-spec =
     tie.close
     (tie.spec
     slice-aggregate-put-line
+    slice-aggregate-put-line-2
     put-line-requires
     array-share-prefix-line
     slice-aggregate-write-all

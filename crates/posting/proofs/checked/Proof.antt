@@ -5,6 +5,7 @@ use native.Mathlib.Omega.{arith}
 use mathlib.Core.Path.{_≡_}
 use Prim.Native.Nat.{_-_, _/_, _≤_}
 use lib.ListN.{length}
+use Rattle.psc.specs.Search.{found}
 use Rattle.posting.specs.File.{totalsOver}
 use Rattle.posting.proofs.Amounts.{totals-small}
 use Rattle.posting.proofs.Ways.{SoFar, so-far-none, so-far-on, file-breaks, file-passes, totals-start, totals-on}
@@ -12,10 +13,10 @@ use Rattle.posting.proofs.checked.Statement.{statement}
 use Rattle.posting.proofs.checked.Tie as tie
 
 abbrev Inv-loop : tie.InvT-loop
-Inv-loop file table₀ n totals₀ i₀ table totals i = (i ≤ length file / 401) × (totals ≡ totalsOver file i) × SoFar file i table₀ table
+Inv-loop file psc table₀ n totals₀ i₀ table totals i = (i ≤ length file / 401) × (totals ≡ totalsOver file i) × SoFar (found psc) file i table₀ table
 
 abbrev μ-loop : tie.MeasureT-loop
-μ-loop file table₀ n totals₀ i₀ table totals i = length file / 401 - i
+μ-loop file psc table₀ n totals₀ i₀ table totals i = length file / 401 - i
 
 no-totals-requires : tie.Need-no-totals-requires Inv-loop μ-loop
 no-totals-requires c κs = search needs
@@ -53,7 +54,7 @@ loop-less c = search needs
 loop-again : tie.Need-loop-again Inv-loop μ-loop
 loop-again c =
     let answered = c .before .before .before .before .before .line-answer .ensures in
-    (omega arith, search totals-on, so-far-on _ _ _ _ _ _ (search needs) answered (search needs) (search needs))
+    (omega arith, search totals-on, so-far-on _ _ _ _ _ _ _ (search needs) answered (search needs) (search needs))
 
 same-length-2 : tie.Need-same-length-2 Inv-loop μ-loop
 same-length-2 c = search needs

@@ -24,17 +24,17 @@ shared-slice-read-ended-2 c = search needs
 returns : tie.Need-returns
 returns c = record { answers = search line-open; notes = λ z. absurd (omega arith) }
 
-sub-check : tie.Need-sub-check
-sub-check c = search needs
+sub-answer : tie.Need-sub-answer
+sub-answer c = search needs
 
-part-check-start : tie.Need-part-check-start
-part-check-start c = search needs
+part-answer-start : tie.Need-part-answer-start
+part-answer-start c = search needs
 
-part-check-end : tie.Need-part-check-end
-part-check-end c = search needs
+part-answer-end : tie.Need-part-answer-end
+part-answer-end c = search needs
 
-check-requires : tie.Need-check-requires
-check-requires c κs = search needs
+answer-requires : tie.Need-answer-requires
+answer-requires c κs = search needs
 
 returns-2 : tie.Need-returns-2
 returns-2 c = record { answers = search line-breaks; notes = λ z. absurd (c .if2 .taken z) }
@@ -64,10 +64,10 @@ line-answer-spec =
     add-ended
     shared-slice-read-ended-2
     returns
-    sub-check
-    part-check-start
-    part-check-end
-    check-requires
+    sub-answer
+    part-answer-start
+    part-answer-end
+    answer-requires
     returns-2
     repeated-requires
     same-length

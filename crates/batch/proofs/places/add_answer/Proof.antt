@@ -5,8 +5,8 @@ use Rattle.batch.proofs.ActionWays.{add-broken, add-repeats, add-room, 
 use Rattle.batch.proofs.places.add_answer.Statement.{statement}
 use Rattle.batch.proofs.places.add_answer.Tie as tie
 
-check-posting-requires : tie.Need-check-posting-requires
-check-posting-requires c κs = search needs
+answer-requires : tie.Need-answer-requires
+answer-requires c κs = search needs
 
 returns : tie.Need-returns
 returns c = search add-broken
@@ -19,7 +19,7 @@ record-number-requires c κs = search needs
 
 returns-2 : tie.Need-returns-2
 returns-2 c =
-    add-repeats _ _ _ _ (c .before .before .before .before .before .check-posting .ensures) (c .before .before .before .if1 .left) _ (c .before .before .field .ensures) _ (c .before .record-number .ensures) (c .if2 .taken)
+    add-repeats _ _ _ _ _ (c .before .before .before .before .before .answer .ensures) (c .before .before .before .if1 .left) _ (c .before .before .field .ensures) _ (c .before .record-number .ensures) (c .if2 .taken)
 
 mul-if3 : tie.Need-mul-if3
 mul-if3 c = search needs
@@ -37,7 +37,7 @@ pub add-answer-spec : {M : Type 1} → statement M
 add-answer-spec =
     tie.close
     (tie.spec
-    check-posting-requires
+    answer-requires
     returns
     field-requires
     record-number-requires

@@ -5,8 +5,8 @@ use Rattle.batch.proofs.ActionWays.{amend-broken, amend-live}
 use Rattle.batch.proofs.places.amend_answer.Statement.{statement}
 use Rattle.batch.proofs.places.amend_answer.Tie as tie
 
-check-posting-requires : tie.Need-check-posting-requires
-check-posting-requires c κs = search needs
+answer-requires : tie.Need-answer-requires
+answer-requires c κs = search needs
 
 returns : tie.Need-returns
 returns c = search amend-broken
@@ -23,4 +23,4 @@ returns-2 c = search amend-live
 pub amend-answer-spec : {M : Type 1} → statement M
 amend-answer-spec =
     tie.close
-    (tie.spec check-posting-requires returns field-requires live-answer-requires returns-2)
+    (tie.spec answer-requires returns field-requires live-answer-requires returns-2)

@@ -17,8 +17,8 @@ sub-if1 c = search needs
 returns : tie.Need-returns
 returns c = search added-short
 
-check-posting-requires : tie.Need-check-posting-requires
-check-posting-requires c κs = search needs
+answer-requires : tie.Need-answer-requires
+answer-requires c κs = search needs
 
 returns-2 : tie.Need-returns-2
 returns-2 c = search added-refused
@@ -79,7 +79,7 @@ mark-addition-spec =
     add-e
     sub-if1
     returns
-    check-posting-requires
+    answer-requires
     returns-2
     sub-same
     part-same-start

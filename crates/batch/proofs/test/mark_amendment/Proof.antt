@@ -5,8 +5,8 @@ use Rattle.batch.proofs.TestWays.{amended-refused, amended-nowhere, liv
 use Rattle.batch.proofs.test.mark_amendment.Statement.{statement}
 use Rattle.batch.proofs.test.mark_amendment.Tie as tie
 
-check-posting-requires : tie.Need-check-posting-requires
-check-posting-requires c κs = search needs
+answer-requires : tie.Need-answer-requires
+answer-requires c κs = search needs
 
 returns : tie.Need-returns
 returns c = search amended-refused
@@ -51,7 +51,7 @@ pub mark-amendment-spec : {M : Type 1} → statement M
 mark-amendment-spec =
     tie.close
     (tie.spec
-    check-posting-requires
+    answer-requires
     returns
     field-requires
     live-place-requires

@@ -13,7 +13,7 @@ slice-aggregate-test-with-2 : tie.Need-slice-aggregate-test-with-2
 slice-aggregate-test-with-2 c = search needs
 
 test-with-requires : tie.Need-test-with-requires
-test-with-requires c κs = fresh _ _ 64 128 (c .before .before .before .before .before .pre) (omega (arith, c .before .before .if1 .taken)) (omega (arith, c .before .before .if1 .taken))
+test-with-requires c κs = fresh _ _ 64 128 (c .before .before .before .before .before .before .pre) (omega (arith, c .before .before .if1 .taken)) (omega (arith, c .before .before .if1 .taken))
 
 returns : tie.Need-returns
 returns c = search needs
@@ -25,7 +25,7 @@ slice-aggregate-test-with-4 : tie.Need-slice-aggregate-test-with-4
 slice-aggregate-test-with-4 c = search needs
 
 test-with-requires-2 : tie.Need-test-with-requires-2
-test-with-requires-2 c κs = fresh _ _ 256 512 (c .before .before .before .before .before .before .pre) (omega (arith, c .before .before .if2 .taken)) (omega (arith, c .before .before .if2 .taken))
+test-with-requires-2 c κs = fresh _ _ 256 512 (c .before .before .before .before .before .before .before .pre) (omega (arith, c .before .before .if2 .taken)) (omega (arith, c .before .before .if2 .taken))
 
 returns-2 : tie.Need-returns-2
 returns-2 c = search needs
@@ -37,7 +37,7 @@ slice-aggregate-test-with-6 : tie.Need-slice-aggregate-test-with-6
 slice-aggregate-test-with-6 c = search needs
 
 test-with-requires-3 : tie.Need-test-with-requires-3
-test-with-requires-3 c κs = let few = few-places _ _ (c .before .before .before .before .before .before .pre) in fresh _ _ 999 2048 (c .before .before .before .before .before .before .pre) (omega (arith, few)) (omega (arith, few))
+test-with-requires-3 c κs = let few = few-places _ _ (c .before .before .before .before .before .before .before .pre) in fresh _ _ 999 2048 (c .before .before .before .before .before .before .before .pre) (omega (arith, few)) (omega (arith, few))
 
 returns-3 : tie.Need-returns-3
 returns-3 c = search needs

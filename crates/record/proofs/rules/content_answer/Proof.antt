@@ -26,11 +26,17 @@ weight-answer-requires c κs = search needs
 or-else-requires : tie.Need-or-else-requires
 or-else-requires c κs = search needs
 
-address-answer-requires : tie.Need-address-answer-requires
-address-answer-requires c κs = search needs
+postcode-answer-requires : tie.Need-postcode-answer-requires
+postcode-answer-requires c κs = search needs
 
 or-else-requires-2 : tie.Need-or-else-requires-2
 or-else-requires-2 c κs = search needs
+
+address-answer-requires : tie.Need-address-answer-requires
+address-answer-requires c κs = search needs
+
+or-else-requires-3 : tie.Need-or-else-requires-3
+or-else-requires-3 c κs = search needs
 
 returns : tie.Need-returns
 returns c = search content-is
@@ -46,6 +52,8 @@ content-answer-spec =
     service-answer-requires
     weight-answer-requires
     or-else-requires
-    address-answer-requires
+    postcode-answer-requires
     or-else-requires-2
+    address-answer-requires
+    or-else-requires-3
     returns)

@@ -8,14 +8,14 @@ use Rattle.record.proofs.rules.weight_answer.Tie as tie
 enum-known-weight : tie.Need-enum-known-weight
 enum-known-weight c = search needs
 
-weightless-requires : tie.Need-weightless-requires
-weightless-requires c κs = search needs
+two-codes-requires : tie.Need-two-codes-requires
+two-codes-requires c κs = search needs
 
 returns : tie.Need-returns
 returns c = search weight-none
 
-weightless-requires-2 : tie.Need-weightless-requires-2
-weightless-requires-2 c κs = search needs
+two-codes-requires-2 : tie.Need-two-codes-requires-2
+two-codes-requires-2 c κs = search needs
 
 returns-2 : tie.Need-returns-2
 returns-2 c = search weight-zero
@@ -28,8 +28,8 @@ weight-answer-spec =
     tie.close
     (tie.spec
     enum-known-weight
-    weightless-requires
+    two-codes-requires
     returns
-    weightless-requires-2
+    two-codes-requires-2
     returns-2
     returns-3)

@@ -8,11 +8,11 @@ use Rattle.run_judged.proofs.histories.answer_with_file.Tie as tie
 array-borrow-prefix-file : tie.Need-array-borrow-prefix-file
 array-borrow-prefix-file c = front-fits (c .before .before .args .n) 401000 7 (c .before .before .pre)
 
-slice-aggregate-answer-calls : tie.Need-slice-aggregate-answer-calls
-slice-aggregate-answer-calls c = front-long (c .before .before .before .args .n) 401000 7 (c .before .before .before .pre)
+slice-aggregate-answer-with-table : tie.Need-slice-aggregate-answer-with-table
+slice-aggregate-answer-with-table c = front-long (c .before .before .before .args .n) 401000 7 (c .before .before .before .pre)
 
-answer-calls-requires : tie.Need-answer-calls-requires
-answer-calls-requires c κs = tt
+answer-with-table-requires : tie.Need-answer-with-table-requires
+answer-with-table-requires c κs = tt
 
 same-length : tie.Need-same-length
 same-length c = search needs
@@ -25,7 +25,7 @@ answer-with-file-spec =
     tie.close
     (tie.spec
     array-borrow-prefix-file
-    slice-aggregate-answer-calls
-    answer-calls-requires
+    slice-aggregate-answer-with-table
+    answer-with-table-requires
     same-length
     returns)

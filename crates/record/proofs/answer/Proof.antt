@@ -1,10 +1,9 @@
--- `record::answered` meets its contract.
+-- `record::answer` meets its contract.
 -- Assumes nothing.
 use borrow.Author.Needs.{needs}
 use Rattle.record.proofs.Ways.{record-wide, record-long}
-use borrow.Author.Needs.{needs}
-use Rattle.record.proofs.answered.Statement.{statement}
-use Rattle.record.proofs.answered.Tie as tie
+use Rattle.record.proofs.answer.Statement.{statement}
+use Rattle.record.proofs.answer.Tie as tie
 
 returns : tie.Need-returns
 returns c = search record-wide
@@ -15,5 +14,5 @@ judged-requires c κs = search needs
 returns-2 : tie.Need-returns-2
 returns-2 c = search record-long
 
-pub answered-spec : {M : Type 1} → statement M
-answered-spec = tie.close (tie.spec returns judged-requires returns-2)
+pub answer-spec : {M : Type 1} → statement M
+answer-spec = tie.close (tie.spec returns judged-requires returns-2)
