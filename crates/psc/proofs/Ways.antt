@@ -1,11 +1,12 @@
 -- Each turn of the loops, and each way out of the functions, from the facts that are known there.
 -- Assumes nothing.
 use Prim.Native.Nat.{ℕ, suc, _+_, _-_, _≤_, _<_}
-use mathlib.Core.Path.{_≡_, refl}
-use mathlib.Core.Bool.{Bool, true, false, _&&_, and-false}
+use mathlib.Core.Path.{_≡_, refl, sym, _∙_}
+use mathlib.Core.Bool.{Bool, true, false, _&&_, and-false, and-true}
 use mathlib.Core.List.{List}
 use native.Mathlib.Omega.{arith}
-use borrow.Author.Tests.{lt-ltb, le-ltb, le-leb, lt-leb, eq-eqb, ne-eqb}
+use borrow.Author.Tests.{lt-ltb, le-ltb, le-leb, lt-leb, leb-true, leb-false, eq-eqb, ne-eqb}
+use lib.Dec.{leb}
 use lib.ListN.{length, getD, drop}
 use Rattle.text.specs.Bytes.{every}
 use Rattle.text.proofs.Lists.{step, ended}
@@ -17,27 +18,35 @@ pub right-long : (table : List ℕ) → 16000 < length table → false ≡ right
 unfolding rightTable
 right-long table h = rw (lt-leb (length table) 16000 h)
 
-pub right-start : (table : List ℕ) → length table ≤ 16000 → (risesFrom 0 table && every isPostcode table) ≡ rightTable table
+-- they rise from the least that the next may be, and none passes 99999: so they end there if the least is no more than one above it
+abbrev pub rightBehind : ℕ → List ℕ → Bool
+rightBehind least ns = risesFrom least ns && (leb least 100000 && every isPostcode ns)
+
+pub right-start : (table : List ℕ) → length table ≤ 16000 → rightBehind 0 table ≡ rightTable table
 unfolding rightTable
 right-start table h = rw (le-leb (length table) 16000 h)
 
-module _ (table : List ℕ) (i least : ℕ) (r : Bool) (known : (risesFrom least (drop i table) && every isPostcode (drop i table)) ≡ r) where
-  pub right-falls : i < length table → getD table i 0 < least → false ≡ r
-  unfolding risesFrom every
-  right-falls h low = rw (step table i h, lt-leb least (getD table i 0) low) at known
+within-on : (least entry : ℕ) (rest : Bool) → least ≤ entry → (leb least 100000 && (leb entry 99999 && rest)) ≡ (leb (entry + 1) 100000 && rest)
+within-on least entry rest h = go (leb entry 99999) refl
+  where
+    go : (t : Bool) → leb entry 99999 ≡ t → (leb least 100000 && (t && rest)) ≡ (leb (entry + 1) 100000 && rest)
+    go true e = let low = leb-true entry 99999 e in rw (le-leb least 100000 (omega (arith, low)), le-leb (entry + 1) 100000 (omega (arith, low)))
+    go false e = rw (lt-leb (entry + 1) 100000 (omega (arith, leb-false entry 99999 e)), and-false)
 
-  pub right-passes : i < length table → 99999 < getD table i 0 → false ≡ r
+module _ (table : List ℕ) (i least : ℕ) (r : Bool) (known : rightBehind least (drop i table) ≡ r) where
+  pub right-falls : i < length table → (entry : ℕ) → entry ≡ getD table i 0 → entry < least → false ≡ r
   unfolding risesFrom every
-  right-passes h high = rw (step table i h, lt-leb (getD table i 0) 99999 high, and-false) at known
+  right-falls h entry e low = rw (step table i h, lt-leb least (getD table i 0) (omega (arith, e))) at known
 
-  pub right-on : i < length table → least ≤ getD table i 0 → getD table i 0 ≤ 99999
-      → (risesFrom (getD table i 0 + 1) (drop (i + 1) table) && every isPostcode (drop (i + 1) table)) ≡ r
+  pub right-on : i < length table → (entry next : ℕ) → entry ≡ getD table i 0 → least ≤ entry → next ≡ getD table i 0 + 1 → rightBehind next (drop (i + 1) table) ≡ r
   unfolding risesFrom every
-  right-on h low high = rw (step table i h, le-leb least (getD table i 0) low, le-leb (getD table i 0) 99999 high) at known
+  right-on h entry next e low en =
+      let l : least ≤ getD table i 0 = omega (arith, e) in
+      rw en (rw (step table i h, le-leb least (getD table i 0) l, within-on least (getD table i 0) (every isPostcode (drop (i + 1) table)) l) at known)
 
-  pub right-ends : length table ≤ i → true ≡ r
+  pub right-ends : length table ≤ i → leb least 100000 ≡ r
   unfolding risesFrom every
-  right-ends h = rw (ended table i h) at known
+  right-ends h = sym (and-true (leb least 100000)) ∙ (rw (ended table i h) at known)
 
 -- ---- find: among the entries from `low` up to `high`, with so many looks left
 pub look-first : (table : List ℕ) (n : ℕ) → foundIn 14 table 0 (length table) n ≡ found table n

@@ -31,6 +31,19 @@ pub struct Reading {
     pub entries: usize,
 }
 
+fn wide(n: u32) -> u64
+    ensures { λ r. ⌜ r ≡ n ⌝ }
+{
+    n as u64
+}
+
+// The least that may stand behind an entry.
+fn next(entry: u32) -> u64
+    ensures { λ r. ⌜ r ≡ entry + 1 ⌝ }
+{
+    entry as u64 + 1
+}
+
 // Whether a table has at most 16,000 entries, rises and does not pass 99999.
 pub fn right(table: &[u32]) -> bool
     ensures { λ r. ⌜ Gives (rightTable (now (table .entry))) r ⌝ }
@@ -38,26 +51,18 @@ pub fn right(table: &[u32]) -> bool
     if table.len() > MOST_ENTRIES {
         return false;
     }
-    let mut least: u32 = 0;
+    let mut least: u64 = 0;
     let mut i = 0;
     while i < table.len() {
         let entry = table[i];
-        if entry < least {
+        if wide(entry) < least {
             return false;
         }
-        if entry > 99_999 {
-            return false;
-        }
-        least = entry + 1;
+        least = next(entry);
         i += 1;
     }
-    true
-}
-
-fn wide(n: u32) -> u64
-    ensures { λ r. ⌜ r ≡ n ⌝ }
-{
-    n as u64
+    // Of entries that rise the last is the highest.
+    least <= 100_000
 }
 
 // Whether a number is in a right table, told by at most 14 looks.
