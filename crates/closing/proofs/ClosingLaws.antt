@@ -15,11 +15,13 @@ use Rattle.layout.specs.Layout.{fieldOf}
 use Rattle.fields.specs.Others.{readStatus}
 use Rattle.psc.specs.Table.{rightTable, holds}
 use Rattle.record.specs.Codes.{lacks}
+use Rattle.record.specs.Outcomes.{anyPostcode}
 use Rattle.posting.specs.declared.FileAnswer.{FileAnswer}
 use Rattle.posting.specs.File.{recordAt, recordsIn, refused, fileAnswer, tableRefused, fileCheck}
 use Rattle.posting.specs.Sums.{isLive}
 use Rattle.posting.proofs.Codes as Codes
 use Rattle.posting.proofs.Codes.{no-other-file-code}
+use Rattle.posting.proofs.AnyPostcode.{file-stays}
 use Rattle.closing.specs.Sets.{mainOf, inSet}
 use Rattle.closing.specs.Closing.{recordsOf, placeOf, closingAnswer}
 use Rattle.closing.specs.Links.{WholeBefore}
@@ -152,3 +154,16 @@ code-238-exactly psc file = go (closing-outcome psc file) (Codes.code-238-exactl
     go (file-refused n e) i = (λ c. i .0 (coded e c), λ w. coded (sym e) (i .1 w))
     go (set-offends z i q place s e) j = (λ c. absurd (omega (arith, coded e c)), λ w. absurd (omega (arith, z, j .1 w)))
     go (all-whole z w e) j = (λ c. j .0 (coded e c), λ x. coded (sym e) (j .1 x))
+
+-- ---- sets know nothing of postcodes: under two right tables the answer is the same, but for 21 and 24
+file-not : (psc file : List ℕ) → rightTable psc ≡ true → (c : ℕ) → (c ≡ 0 → ⊥) → (closingAnswer psc file .code ≡ c → ⊥) → fileAnswer (holds psc) file .code ≡ c → ⊥
+file-not psc file r c some n h = let e = coded (sym (Codes.right-table psc file r)) h in n (rw (refusal-stands psc file (λ z. some (sym e ∙ z))) e)
+
+as-of-any : (psc file : List ℕ) → rightTable psc ≡ true → (closingAnswer psc file .code ≡ 21 → ⊥) → (closingAnswer psc file .code ≡ 24 → ⊥) → fileCheck psc file ≡ fileAnswer anyPostcode file
+as-of-any psc file r n21 n24 =
+    Codes.right-table psc file r ∙ file-stays (holds psc) file (file-not psc file r 21 (λ z. omega (arith, z)) n21) (file-not psc file r 24 (λ z. omega (arith, z)) n24)
+
+pub closing-stays : (psc other file : List ℕ) → rightTable psc ≡ true → rightTable other ≡ true → (closingAnswer psc file .code ≡ 21 → ⊥) → (closingAnswer psc file .code ≡ 24 → ⊥)
+    → (closingAnswer other file .code ≡ 21 → ⊥) → (closingAnswer other file .code ≡ 24 → ⊥) → closingAnswer psc file ≡ closingAnswer other file
+unfolding closingAnswer
+closing-stays psc other file r s n21 n24 m21 m24 = rw (as-of-any psc file r n21 n24, as-of-any other file s m21 m24)

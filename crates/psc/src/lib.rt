@@ -37,13 +37,6 @@ fn wide(n: u32) -> u64
     n as u64
 }
 
-// The least that may stand behind an entry.
-fn next(entry: u32) -> u64
-    ensures { λ r. ⌜ r ≡ entry + 1 ⌝ }
-{
-    entry as u64 + 1
-}
-
 // Whether a table has at most 16,000 entries, rises and does not pass 99999.
 pub fn right(table: &[u32]) -> bool
     ensures { λ r. ⌜ Gives (rightTable (now (table .entry))) r ⌝ }
@@ -51,18 +44,21 @@ pub fn right(table: &[u32]) -> bool
     if table.len() > MOST_ENTRIES {
         return false;
     }
-    let mut least: u64 = 0;
-    let mut i = 0;
+    if table.len() == 0 {
+        return true;
+    }
+    let mut last = table[0];
+    let mut rises = true;
+    let mut i = 1;
+    // No way out before the end, so that the compiler takes several entries at once.
     while i < table.len() {
         let entry = table[i];
-        if wide(entry) < least {
-            return false;
-        }
-        least = next(entry);
+        rises = rises & (last < entry);
+        last = entry;
         i += 1;
     }
     // Of entries that rise the last is the highest.
-    least <= 100_000
+    rises & (last <= 99_999)
 }
 
 // Whether a number is in a right table, told by at most 14 looks.
