@@ -268,7 +268,7 @@ static void check_records(struct batch *b)
 {
     for (size_t at = 0; at < b->counts.used; at += ENTRY) {
         const uint8_t *record = b->journal + at + HEAD;
-        fuganorezi_answer answer = fuganorezi_record_check(record, RECORD, good_table, GOOD_ENTRIES);
+        fuganorezi_record answer = fuganorezi_record_check(record, RECORD, good_table, GOOD_ENTRIES);
         expect_code("a record check", answer.code, FUGANOREZI_GOOD);
     }
 }

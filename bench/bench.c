@@ -1,8 +1,9 @@
 /*
- * The library's file check beside the reference in C: first that both answer judged files as judged, then the time
- * of each on good files of several sizes.
+ * The library's file check beside the reference in C: first that both answer judged files as judged, and files of
+ * several consignors as they should; then the time of each on good files of several sizes.
  */
 #define _POSIX_C_SOURCE 199309L /* for times.h */
+#include "consignors.h"
 #include "file_checks.h"
 #include "fuganorezi.h"
 #include "judged.h"
@@ -37,14 +38,36 @@ static void compare_judged(const char *path, unsigned long number, const struct 
     compare_both("judged file", number, table, item, expected);
 }
 
-static void compare_on_good_file(uint8_t *file, unsigned records)
+/* Under the table of the good records. */
+static void compare_on_file(const char *what, unsigned long number, uint8_t *file, unsigned records,
+                            const uint64_t expected[NUMBERS])
 {
     static uint32_t entries[GOOD_ENTRIES];
     struct table table = {memcpy(entries, good_table, sizeof entries), GOOD_ENTRIES};
     struct item item = {file, (size_t)records * GOOD_STEP};
+    compare_both(what, number, &table, &item, expected);
+}
+
+static void compare_on_good_file(uint8_t *file, unsigned records)
+{
     struct good_totals totals = good_totals(records);
     const uint64_t expected[NUMBERS] = {0, 0, 0, totals.live, totals.cancelled, totals.cash, totals.price};
-    compare_both("good file", records, &table, &item, expected);
+    compare_on_file("good file", records, file, records, expected);
+}
+
+/* Each row of four records. */
+static void compare_on_consignors(void)
+{
+    enum { RECORDS = 4 };
+    uint8_t file[RECORDS * GOOD_STEP];
+    enum whose row[RECORDS];
+    for (unsigned number = 0; number < rows_of(RECORDS); number++) {
+        put_row(row, RECORDS, number);
+        put_file_of(file, row, RECORDS);
+        const uint64_t good[NUMBERS] = {0, 0, 0, RECORDS};
+        const uint64_t refused[NUMBERS] = {FUGANOREZI_OTHER_CONSIGNOR, first_other(row, RECORDS), 1};
+        compare_on_file("row of consignors", number, file, RECORDS, refused[1] == 0 ? good : refused);
+    }
 }
 
 /* Times */
@@ -74,6 +97,7 @@ int main(int count, char **words)
     ask_each(words[1], words[2], UNDER_TABLE, NUMBERS, compare_judged);
     for (size_t i = 0; i < sizeof sizes / sizeof sizes[0]; i++)
         compare_on_good_file(file, sizes[i]);
+    compare_on_consignors();
     if (summary("answers of the library and of C") != 0)
         return 1;
     printf("Microseconds for one call, medians of %d runs that take turns:\n", RUNS);

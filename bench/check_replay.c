@@ -1,8 +1,9 @@
 /*
  * Whether the replay in C answers as the library: on the state before each call of the judged histories, and for their
- * additions, with all that these leave behind. Then on journals that no calls make, and on a batch with each byte
- * spoiled.
+ * additions, with all that these leave behind. Then on journals that no calls make, on those of several consignors, and
+ * on a batch with each byte spoiled.
  */
+#include "consignors.h"
 #include "good_file.h"
 #include "histories.h"
 #include "replay.h"
@@ -128,11 +129,16 @@ static struct batch open_batch(void)
     return b;
 }
 
+static void compare_addition_of(const char *what, unsigned long number, struct batch *b, const uint8_t *line)
+{
+    compare_call(what, number, b, &(struct step){ADD, line, FUGANOREZI_RECORD_LENGTH});
+}
+
 static void compare_addition(const char *what, unsigned long number, struct batch *b)
 {
     uint8_t line[GOOD_STEP];
     put_good_posting(line, ANOTHER);
-    compare_call(what, number, b, &(struct step){ADD, line, FUGANOREZI_RECORD_LENGTH});
+    compare_addition_of(what, number, b, line);
 }
 
 static void put_entry(struct batch *b, enum op op, const uint8_t *bytes)
@@ -146,15 +152,23 @@ static void put_entry(struct batch *b, enum op op, const uint8_t *bytes)
     b->counts.used += length;
 }
 
+static void forge_addition(struct batch *b, const uint8_t *line)
+{
+    put_entry(b, ADD, line);
+    memcpy(b->file + b->counts.held++ * GOOD_STEP, line, GOOD_STEP);
+}
+
 /* Does it whatever stands there: a change is one of the first place. */
 static void forge(struct batch *b, enum op op)
 {
     uint8_t line[GOOD_STEP];
     put_good_posting(line, PLAIN);
+    if (op == ADD) {
+        forge_addition(b, line);
+        return;
+    }
     put_entry(b, op, line);
-    if (op == ADD)
-        memcpy(b->file + b->counts.held++ * GOOD_STEP, line, GOOD_STEP);
-    else if (b->counts.held != 0)
+    if (b->counts.held != 0)
         b->file[GOOD_STATUS] = op == CANCEL ? '0' : ' ';
 }
 
@@ -176,6 +190,27 @@ static void compare_forged(void)
             count_forged(&b);
             compare_addition("forged journal", journal, &b);
         }
+}
+
+/* Each row of three additions, the first of them cancelled or not, and then one of each consignor. */
+static void compare_rows(bool cancelled)
+{
+    enum { RECORDS = 3 };
+    enum whose row[RECORDS + 1];
+    uint8_t lines[(RECORDS + 1) * GOOD_STEP];
+    for (unsigned number = 0; number < rows_of(RECORDS + 1); number++) {
+        struct batch b = open_batch();
+        put_row(row, RECORDS + 1, number);
+        put_file_of(lines, row, RECORDS + 1);
+        for (unsigned i = 0; i < RECORDS; i++)
+            forge_addition(&b, lines + i * GOOD_STEP);
+        if (cancelled) {
+            put_entry(&b, CANCEL, lines);
+            b.file[GOOD_STATUS] = '0';
+        }
+        count_forged(&b);
+        compare_addition_of("row of consignors", number, &b, lines + RECORDS * GOOD_STEP);
+    }
 }
 
 /* Two records, the first of them amended and the second cancelled: so one version stands in the journal alone. */
@@ -227,6 +262,8 @@ int main(int count, char **words)
     compare_histories(words[1]);
     summary("judged histories, library and C");
     compare_forged();
+    compare_rows(false);
+    compare_rows(true);
     compare_spoiled();
-    return summary("these, forged journals and spoiled bytes");
+    return summary("these, forged journals, consignors and spoiled bytes");
 }

@@ -149,6 +149,16 @@ static bool right_identifier(const uint8_t *bytes)
            !all_zeros(digits + consignor, 9 - consignor) && check_digit_fits(digits, 9);
 }
 
+/* Whose a right identifier is: its consignor's digits behind its last byte, as one number; 0 for CZ, which is nobody's. */
+static inline uint64_t consignor_of(const uint8_t *identifier)
+{
+    uint64_t consignor = identifier[12];
+    size_t count = consignor_digits[identifier[12]];
+    for (size_t i = 0; i < count; i++)
+        consignor = consignor << 8 | identifier[2 + i];
+    return count != 0 ? consignor : 0;
+}
+
 /* Fields */
 
 enum reading { ABSENT, VALUE, MALFORMED };
@@ -584,11 +594,16 @@ struct reference_posting reference_posting_check(const uint8_t record[399], cons
     struct consignment it;
     struct answer answer = judge_status(record, check_record(record, &it, (struct table){table, entries}));
     if (answer.code != 0)
-        return (struct reference_posting){answer.code, answer.place, 0, 0};
-    return (struct reference_posting){0, 0, it.cash, it.price};
+        return (struct reference_posting){answer.code, answer.place, 0, 0, 0};
+    return (struct reference_posting){0, 0, it.cash, it.price, consignor_of(record + IDENTIFIER)};
 }
 
-/* Repeated identifiers */
+/* Repeated identifiers and consignors: what is carried from record to record */
+
+struct carried {
+    struct slots seen;
+    uint64_t consignor; /* the first that was named; 0 up to there */
+};
 
 /* Notes the identifier of this record, numbered from 1; true if an earlier one has it. */
 static inline bool seen_before(struct slots *seen, const uint8_t *file, size_t number)
@@ -604,6 +619,15 @@ static inline bool seen_before(struct slots *seen, const uint8_t *file, size_t n
     }
 }
 
+/* Notes whose this record is; true if an earlier one is of another. */
+static inline bool of_another(struct carried *carried, const uint8_t *record)
+{
+    uint64_t consignor = consignor_of(record + IDENTIFIER);
+    if (carried->consignor == 0)
+        carried->consignor = consignor;
+    return consignor != 0 && consignor != carried->consignor;
+}
+
 /* Files */
 
 enum { OUT_CODE, OUT_RECORD, OUT_PLACE, OUT_LIVE, OUT_CANCELLED, OUT_CASH, OUT_PRICE, OUTS };
@@ -617,16 +641,18 @@ static uint32_t refuse(uint64_t out[OUTS], struct answer answer, size_t number)
     return answer.code;
 }
 
-static inline struct answer check_in_file(const uint8_t *file, size_t number, struct table table, struct slots *seen,
-                                          struct consignment *it)
+static inline struct answer check_in_file(const uint8_t *file, size_t number, struct table table,
+                                          struct carried *carried, struct consignment *it)
 {
     const uint8_t *record = file + (number - 1) * STEP;
     if (record[RECORD] != 0x0d || record[RECORD + 1] != 0x0a)
         return (struct answer){212, 0};
     struct answer answer = check_record(record, it, table);
-    if (answer.code == 0 && seen_before(seen, file, number))
+    if (answer.code != 0)
+        return answer;
+    if (seen_before(&carried->seen, file, number))
         return (struct answer){2, 1};
-    return answer;
+    return of_another(carried, record) ? (struct answer){241, 1} : accepted;
 }
 
 static inline void add_to_totals(uint64_t out[OUTS], const struct consignment *it)
@@ -643,7 +669,7 @@ static inline void add_to_totals(uint64_t out[OUTS], const struct consignment *i
 uint32_t reference_file_check(const uint8_t *bytes, size_t length, const uint32_t *table, size_t entries,
                               uint64_t out[7])
 {
-    struct slots seen;
+    struct carried carried;
     struct consignment it;
     struct table postcodes = {table, entries};
     size_t records = length / STEP;
@@ -654,9 +680,10 @@ uint32_t reference_file_check(const uint8_t *bytes, size_t length, const uint32_
     if (records > MOST_RECORDS)
         return refuse(out, (struct answer){213, 0}, 0);
     memset(out, 0, OUTS * sizeof out[0]);
-    clear_slots(&seen, records);
+    clear_slots(&carried.seen, records);
+    carried.consignor = 0;
     for (size_t number = 1; number <= records; number++) {
-        struct answer answer = check_in_file(bytes, number, postcodes, &seen, &it);
+        struct answer answer = check_in_file(bytes, number, postcodes, &carried, &it);
         if (answer.code != 0)
             return refuse(out, answer, number);
         add_to_totals(out, &it);

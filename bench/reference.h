@@ -26,10 +26,14 @@ uint32_t reference_file_check(const uint8_t *bytes, size_t length, const uint32_
 uint32_t reference_record_check(const uint8_t *bytes, size_t length, const uint32_t *table, size_t entries,
                                 uint32_t *place);
 
-/* What a record to be posted is answered with, and its amounts in haléře; these are 0 where it is refused. */
+/*
+ * What a record to be posted is answered with, its amounts in haléře, and whose it is: a number of our own for each
+ * consignor, and 0 for nobody. All these are 0 where it is refused.
+ */
 struct reference_posting {
     uint32_t code, place;
     uint64_t cash, price;
+    uint64_t consignor;
 };
 
 /* One record of 399 bytes, to be posted: a status that is not blank is malformed. The table is a right one. */

@@ -25,9 +25,13 @@ struct place {
     bool cancelled;
 };
 
-/* All of them, in the file's order, and their numbers by identifier; and the postcodes that records may have. */
+/*
+ * All of them, in the file's order, and their numbers by identifier; the consignor of those that name one, or 0; and the
+ * postcodes that records may have.
+ */
 struct places {
     size_t held, most;
+    uint64_t consignor;
     const uint32_t *table;
     size_t entries;
     struct slots slots;
@@ -38,6 +42,7 @@ static void clear_places(struct places *places, size_t most, const uint32_t *tab
 {
     places->held = 0;
     places->most = most;
+    places->consignor = 0;
     places->table = table;
     places->entries = entries;
     clear_slots(&places->slots, most);
@@ -63,13 +68,24 @@ static inline struct place *live_place(struct places *places, const uint8_t *ide
     return &places->all[number - 1];
 }
 
+/* Whether this consignor, or nobody, may stand among them. */
+static inline bool may_stand(const struct places *places, uint64_t consignor)
+{
+    return consignor == 0 || places->consignor == 0 || consignor == places->consignor;
+}
+
 /* Entries: each gives whether it is acceptable in its turn. */
 
-static inline bool put_record(const struct places *places, struct place *place, const uint8_t *record)
+/* An amendment names whom the addition named. */
+static inline bool put_record(struct places *places, struct place *place, const uint8_t *record)
 {
     struct reference_posting posting = reference_posting_check(record, places->table, places->entries);
     *place = (struct place){record, posting.cash, posting.price, false};
-    return posting.code == 0;
+    if (posting.code != 0 || !may_stand(places, posting.consignor))
+        return false;
+    if (posting.consignor != 0)
+        places->consignor = posting.consignor;
+    return true;
 }
 
 static inline bool replay_addition(struct places *places, const uint8_t *record)
@@ -250,6 +266,8 @@ fuganorezi_outcome replay_batch_add(uint8_t *file, size_t file_length, uint8_t *
         return refused(posting.code, posting.place, counts);
     if (*slot_of(&places, record) != 0)
         return refused(FUGANOREZI_IDENTIFIER_TWICE, 1, counts);
+    if (!may_stand(&places, posting.consignor))
+        return refused(FUGANOREZI_OTHER_CONSIGNOR, 1, counts);
     if (counts.held == file_length / STEP)
         return refused(FUGANOREZI_FILE_FULL, 0, counts);
     if (journal_length - counts.used < RECORD_ENTRY)

@@ -22,10 +22,10 @@ extern "C" {
 #endif
 
 /* The version of this header, which CHANGELOG.md follows. The first number changes where a program has to be changed. */
-#define FUGANOREZI_VERSION_MAJOR 2
+#define FUGANOREZI_VERSION_MAJOR 3
 #define FUGANOREZI_VERSION_MINOR 0
 #define FUGANOREZI_VERSION_PATCH 0
-#define FUGANOREZI_VERSION "2.0.0"
+#define FUGANOREZI_VERSION "3.0.0"
 
 /* Lengths in bytes, unless another unit is said. */
 enum fuganorezi_lengths {
@@ -115,7 +115,8 @@ enum fuganorezi_code {
     FUGANOREZI_WRONG_LENGTH = 236,
     FUGANOREZI_BATCH_DISAGREES = 237,
     FUGANOREZI_WRONG_TABLE = 238,
-    FUGANOREZI_SET_NOT_WHOLE = 240
+    FUGANOREZI_SET_NOT_WHOLE = 240,
+    FUGANOREZI_OTHER_CONSIGNOR = 241
 };
 
 /* The seven numbers of the file check and of the closing check, as places of `out`. */
@@ -141,13 +142,48 @@ enum fuganorezi_out {
 uint32_t fuganorezi_identifier_check(const uint8_t *bytes, size_t length);
 
 /*
- * What the calls below answer about one record or one field, by value: the code, and its place,
- * the number of the field that it speaks of; 0 if it speaks of none. Code 0 has place 0.
+ * What the writers answer, by value, and what each longer answer begins with: the code, and its
+ * place, the number of the field that it speaks of; 0 if it speaks of none. Code 0 has place 0.
  */
 typedef struct fuganorezi_answer {
     uint32_t code;
     uint32_t place;
 } fuganorezi_answer;
+
+/*
+ * What an identifier says.
+ */
+typedef struct fuganorezi_parts {
+    uint8_t first, second; /* the prefix: a capital letter, and another or a space */
+    uint8_t last;          /* the last byte: F E P (consignor of 2 digits), U T (3), C B (4), M L (5), or Z for the postfix CZ */
+    uint64_t consignor;    /* at least 1; 0 with Z */
+    uint64_t posting;      /* the posting number, at least 1 and with as many digits as make 9 with the consignor's; with Z 0 to 99999999 */
+} fuganorezi_parts;
+
+/*
+ * Whose an identifier is: type and number of its consignor, both 0 if it is nobody's. It is
+ * nobody's with the postfix CZ, which names no consignor, and if it is no right identifier.
+ */
+typedef struct fuganorezi_consignor {
+    uint32_t type;   /* the identifier's last byte */
+    uint64_t number; /* at least 1 */
+} fuganorezi_consignor;
+
+/* What reading an identifier answers, by value. */
+typedef struct fuganorezi_identifier {
+    uint32_t code;
+    uint32_t place;
+    fuganorezi_consignor consignor;
+    fuganorezi_parts parts;
+} fuganorezi_identifier;
+
+/*
+ * Reads an identifier: whose it is, and its parts, as fuganorezi_identifier_write takes them.
+ * Accepted: code 0. Refused: all but code and place is 0.
+ *
+ *   1 (1)  the bytes are no right identifier, as above.
+ */
+fuganorezi_identifier fuganorezi_identifier_read(const uint8_t *bytes, size_t length);
 
 /*
  * The table of postcodes that exist: each call that sees a whole record takes it, and a domestic
@@ -177,6 +213,13 @@ typedef struct fuganorezi_table {
  */
 fuganorezi_table fuganorezi_table_read(const uint8_t *text, size_t length, uint32_t *table, size_t entries);
 
+/* What the check of a record answers, by value. */
+typedef struct fuganorezi_record {
+    uint32_t code;
+    uint32_t place;
+    fuganorezi_consignor consignor; /* of field 1, whatever the code; nobody's if there are not 399 bytes */
+} fuganorezi_record;
+
 /*
  * Whether these bytes are a good record, 399 of them without line end.
  *
@@ -187,18 +230,8 @@ fuganorezi_table fuganorezi_table_read(const uint8_t *text, size_t length, uint3
  * As it may stand in a file, live or cancelled; or, as a batch takes it, to be posted: there a
  * status that is not blank is malformed, 210 (19).
  */
-fuganorezi_answer fuganorezi_record_check(const uint8_t *bytes, size_t length, const uint32_t *table, size_t entries);
-fuganorezi_answer fuganorezi_record_check_posting(const uint8_t *bytes, size_t length, const uint32_t *table, size_t entries);
-
-/*
- * What an identifier says.
- */
-typedef struct fuganorezi_parts {
-    uint8_t first, second; /* the prefix: a capital letter, and another or a space */
-    uint8_t last;          /* the last byte: F E P (consignor of 2 digits), U T (3), C B (4), M L (5), or Z for the postfix CZ */
-    uint64_t consignor;    /* at least 1; 0 with Z */
-    uint64_t posting;      /* the posting number, at least 1 and with as many digits as make 9 with the consignor's; with Z 0 to 99999999 */
-} fuganorezi_parts;
+fuganorezi_record fuganorezi_record_check(const uint8_t *bytes, size_t length, const uint32_t *table, size_t entries);
+fuganorezi_record fuganorezi_record_check_posting(const uint8_t *bytes, size_t length, const uint32_t *table, size_t entries);
 
 /*
  * The writers: each sets the bytes lent to it to the one right writing, and answers 0. What it
@@ -270,6 +303,8 @@ fuganorezi_answer fuganorezi_weight_write(uint8_t *bytes, size_t length, uint64_
  *          field 1, or the same and another serial (22). Without service 70: one of these three
  *          is filled (22, 23, 24).
  *   2 (1)  an earlier record, cancelled or not, has the same identifier.
+ * 241 (1)  field 1 names a consignor, and that of an earlier record, cancelled or not, names
+ *          another: type or number differs. CZ may stand among them, and field 22 is not asked.
  */
 uint32_t fuganorezi_file_check(const uint8_t *bytes, size_t length, const uint32_t *table, size_t entries, uint64_t out[7]);
 
@@ -309,6 +344,11 @@ uint32_t fuganorezi_closing_check(const uint8_t *bytes, size_t length, const uin
  * The table of postcodes goes in to each call but opening, and is the same in all of them. Each call
  * judges the journal's entries anew by the table that it is given, so with another one a batch may
  * be refused: 237, where a domestic postcode of some entry is not in it.
+ *
+ * A batch names one consignor at most, as a good file does. The first addition that names one
+ * chooses, and one that names another is refused: 241. A cancelled consignment still counts; undo
+ * takes an addition back, and so frees the choice if no other names a consignor. A journal in which
+ * two are named, as one from before version 3 may be, is refused: 237.
  */
 typedef struct fuganorezi_counts {
     uint64_t live;      /* live consignments */
@@ -352,6 +392,8 @@ typedef struct fuganorezi_outcome {
  *   1 to 72  of the record (add, amend): as in the list of the file check, from 1 down to 72 and
  *          with the same places; but a status that is not blank is malformed here: 210 (19).
  *   2 (1)  the identifier is there already, cancelled or not (add).
+ * 241 (1)  the identifier names a consignor, and one that is there, cancelled or not, names another
+ *          (add).
  * 232      the identifier is not there (amend, cancel).
  * 233      the consignment is cancelled (amend, cancel).
  * 230      the file buffer has no place for one record more (add).

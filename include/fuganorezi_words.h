@@ -90,6 +90,7 @@ static inline const fuganorezi_rule *fuganorezi_rule_for(uint64_t code, uint64_t
         {FUGANOREZI_PIECES_DISAGREE, 23, "must be filled with service 70 and blank without it, and not be above the number of pieces"},
         {FUGANOREZI_PIECES_DISAGREE, 24, "must be filled with service 70 and blank without it"},
         {FUGANOREZI_IDENTIFIER_TWICE, 1, "an earlier record has the same identifier, and each needs its own"},
+        {FUGANOREZI_OTHER_CONSIGNOR, 1, "an earlier record names another consignor, and all that name one must name the same"},
         /* The closing check, where none of these is met */
         {FUGANOREZI_SET_NOT_WHOLE, 24, "the pieces of its set give different numbers of pieces, and must all give the same"},
         {FUGANOREZI_SET_NOT_WHOLE, 23, "a serial of its set is there twice, and each must be there once"},

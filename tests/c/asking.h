@@ -5,6 +5,7 @@
 #ifndef ASKING_H
 #define ASKING_H
 
+#include "consignors.h"
 #include "fenced.h"
 #include "fuganorezi.h"
 #include "good_file.h"
@@ -65,6 +66,71 @@ static inline void ask_no_bytes(void)
     uint64_t out[NUMBERS] = {1, 1, 1, 1, 1, 1, 1};
     uint32_t code = check(NULL, 0, NULL, 0, out);
     expect_numbers("NULL", 0, code, out, zeros);
+}
+
+/* ---- consignors */
+
+/* The first records of a file: accepted, all of them live or all cancelled, or one is of another consignor. */
+static inline void ask_one_consignor(const char *what, unsigned long number, const uint8_t *file, unsigned records,
+                                     unsigned other)
+{
+    bool cancelled = file[GOOD_STATUS] == '0';
+    const uint64_t good[NUMBERS] = {0, 0, 0, cancelled ? 0 : records, cancelled ? records : 0};
+    const uint64_t refused[NUMBERS] = {FUGANOREZI_OTHER_CONSIGNOR, other, 1};
+    ask(what, number, file, (size_t)records * GOOD_STEP, other == 0 ? good : refused);
+}
+
+/* Each row of four records: as it is, and with all of them cancelled. */
+static inline void ask_rows(void)
+{
+    enum { RECORDS = 4 };
+    uint8_t file[RECORDS * GOOD_STEP];
+    enum whose row[RECORDS];
+    for (unsigned number = 0; number < rows_of(RECORDS); number++) {
+        put_row(row, RECORDS, number);
+        put_file_of(file, row, RECORDS);
+        ask_one_consignor("row of consignors", number, file, RECORDS, first_other(row, RECORDS));
+        for (unsigned i = 0; i < RECORDS; i++)
+            file[i * GOOD_STEP + GOOD_STATUS] = '0';
+        ask_one_consignor("row of consignors, cancelled", number, file, RECORDS, first_other(row, RECORDS));
+    }
+}
+
+/* Of the most records only the first and the last name one. */
+static inline void ask_far_apart(void)
+{
+    static uint8_t file[MOST_RECORDS * GOOD_STEP];
+    uint8_t *last = file + (MOST_RECORDS - 1) * GOOD_STEP;
+    for (unsigned i = 0; i < MOST_RECORDS; i++)
+        put_record_of(file + (size_t)i * GOOD_STEP, i == 0 ? OURS : NOBODYS, i + 1);
+    for (enum whose whose = OURS; whose < WHOSE; whose++) {
+        put_record_of(last, whose, MOST_RECORDS);
+        ask_one_consignor("far apart", whose, file, MOST_RECORDS, different(OURS, whose) ? MOST_RECORDS : 0);
+    }
+}
+
+/* Behind all rules of the record, and behind its line end. */
+static inline void ask_other_rules_first(void)
+{
+    uint8_t file[2 * GOOD_STEP], *second = file + GOOD_STEP;
+    put_record_of(file, OURS, 1);
+    put_record_of(second, OTHER_TYPE, 2);
+    ask_refused("another consignor", file, sizeof file, FUGANOREZI_OTHER_CONSIGNOR, 2, 1);
+    put_field(second, 24, "02");
+    ask_refused("another consignor, and pieces", file, sizeof file, FUGANOREZI_PIECES_DISAGREE, 2, 24);
+    put_field(second, 15, "      ");
+    ask_refused("another consignor, and no weight", file, sizeof file, FUGANOREZI_WEIGHT_MISSING, 2, 15);
+    put_field(second, 1, "?");
+    ask_refused("another consignor, and no identifier", file, sizeof file, FUGANOREZI_WRONG_IDENTIFIER, 2, 1);
+    second[GOOD_STEP - 1] = ' ';
+    ask_refused("another consignor, and no line end", file, sizeof file, FUGANOREZI_LINE_END, 2, 0);
+}
+
+static inline void ask_consignors(void)
+{
+    ask_rows();
+    ask_far_apart();
+    ask_other_rules_first();
 }
 
 /* ---- tables */

@@ -1,9 +1,10 @@
 /*
- * The open batch from C: the paper's example 15, the judged histories, each refusal, tables of postcodes, and batches of
- * full size. Buffers, bytes and tables end where memory that cannot be read begins, and each call has the stack that the
- * header says.
+ * The open batch from C: the paper's example 15, the judged histories, each refusal, consignors, tables of postcodes, and
+ * batches of full size. Buffers, bytes and tables end where memory that cannot be read begins, and each call has the stack
+ * that the header says.
  */
 #define _DEFAULT_SOURCE /* for fenced.h */
+#include "consignors.h"
 #include "fenced.h"
 #include "fuganorezi.h"
 #include "good_file.h"
@@ -316,14 +317,139 @@ static void ask_refusals(void)
     expect_empty("refusals undone", &b);
 }
 
-/* Tables of postcodes */
-
 /* Each call but opening. Bytes that are none at all would be 236. */
 static void ask_refused_all(const char *what, struct batch *b, uint64_t code)
 {
     for (enum op op = ADD; op <= UNDO; op++)
         ask_refused(what, op, b, op, NULL, 0, code, 0);
 }
+
+/* Consignors */
+
+static void add_of(struct batch *b, enum whose whose, unsigned number, uint64_t code)
+{
+    uint8_t record[GOOD_STEP];
+    put_record_of(record, whose, number);
+    ask("add of a consignor", whose, b, ADD, record, RECORD);
+    expect_answer("add of a consignor", whose, b, code, code == 0 ? 0 : 1);
+}
+
+static void cancel_of(struct batch *b, enum whose whose, unsigned number)
+{
+    char identifier[14];
+    identifier_of(whose, number, identifier);
+    ask_accepted("cancel of a consignor", whose, b, CANCEL, (const uint8_t *)identifier, IDENTIFIER);
+}
+
+/* A row of additions; where they are cancelled at once they count all the same. What is refused does not. */
+static void ask_row(const enum whose *row, unsigned records, bool cancelled)
+{
+    struct batch b = open_batch(records * GOOD_STEP, records * (ADDITION + CANCELLATION));
+    enum whose chosen = NOBODYS;
+    for (unsigned i = 0; i < records; i++) {
+        bool other = different(row[i], chosen);
+        add_of(&b, row[i], i + 1, other ? FUGANOREZI_OTHER_CONSIGNOR : FUGANOREZI_GOOD);
+        if (cancelled && !other)
+            cancel_of(&b, row[i], i + 1);
+        if (chosen == NOBODYS)
+            chosen = row[i];
+    }
+    expect_good_file("row of consignors", &b);
+}
+
+static void ask_rows(void)
+{
+    enum { RECORDS = 3 };
+    enum whose row[RECORDS];
+    for (unsigned number = 0; number < rows_of(RECORDS); number++) {
+        put_row(row, RECORDS, number);
+        ask_row(row, RECORDS, false);
+        ask_row(row, RECORDS, true);
+    }
+}
+
+/* The choice holds as long as an addition stands that names a consignor, amended and cancelled or not; then it is free. */
+static void ask_choice(void)
+{
+    struct batch b = open_batch(4 * GOOD_STEP, 6 * ADDITION);
+    uint8_t record[GOOD_STEP];
+    put_record_of(record, OURS, 1);
+    put_field(record, 15, " 9.999");
+    add_of(&b, NOBODYS, 9, FUGANOREZI_GOOD);
+    add_of(&b, OURS, 1, FUGANOREZI_GOOD);
+    ask_accepted("amend of a consignor", 0, &b, AMEND, record, RECORD);
+    cancel_of(&b, OURS, 1);
+    add_of(&b, NOBODYS, 2, FUGANOREZI_GOOD);
+    for (unsigned actions = 4; actions > 0; actions--) {
+        add_of(&b, OTHER_TYPE, 3, FUGANOREZI_OTHER_CONSIGNOR);
+        ask_accepted("undo of a consignor", actions, &b, UNDO, NULL, 0);
+    }
+    expect("undo of a consignor", 0, b.counts.used, ADDITION);
+    add_of(&b, OTHER_TYPE, 3, FUGANOREZI_GOOD);
+    add_of(&b, OURS, 1, FUGANOREZI_OTHER_CONSIGNOR);
+    expect_good_file("another choice", &b);
+}
+
+/* Behind the record's rules and before what asks for a place and for room. */
+static void ask_turn(void)
+{
+    struct batch b = open_batch(GOOD_STEP, 2 * ADDITION - 1);
+    uint8_t record[GOOD_STEP];
+    add_of(&b, OURS, 1, FUGANOREZI_GOOD);
+    add_of(&b, OURS, 1, FUGANOREZI_IDENTIFIER_TWICE);
+    add_of(&b, OTHER_TYPE, 1, FUGANOREZI_OTHER_CONSIGNOR);
+    put_record_of(record, OTHER_TYPE, 1);
+    ask_refused("amend of another consignor", 0, &b, AMEND, record, RECORD, FUGANOREZI_NOT_THERE, 0);
+    ask_refused("cancel of another consignor", 0, &b, CANCEL, record, IDENTIFIER, FUGANOREZI_NOT_THERE, 0);
+    put_field(record, 24, "02");
+    ask_refused("another consignor, and pieces", 0, &b, ADD, record, RECORD, FUGANOREZI_PIECES_DISAGREE, 24);
+    put_record_of(record, OURS, 2);
+    ask_refused("no place", 0, &b, ADD, record, RECORD, FUGANOREZI_FILE_FULL, 0);
+    b = open_batch(2 * GOOD_STEP, 2 * ADDITION - 1);
+    add_of(&b, OURS, 1, FUGANOREZI_GOOD);
+    add_of(&b, OTHER_TYPE, 1, FUGANOREZI_OTHER_CONSIGNOR);
+    ask_refused("no room", 0, &b, ADD, record, RECORD, FUGANOREZI_JOURNAL_FULL, 0);
+}
+
+/* Adds by hand what no call would add, with all that belongs to it. The record has no amounts. */
+static void force_addition(struct batch *b, const uint8_t *line)
+{
+    static const uint8_t head[] = {ADDITION % 256, ADDITION / 256, 1, 0};
+    uint8_t *entry = b->journal + b->counts.used;
+    memcpy(b->file + b->counts.held * GOOD_STEP, line, GOOD_STEP);
+    memcpy(entry, head, sizeof head);
+    memcpy(entry + sizeof head, line, RECORD);
+    b->counts.live++;
+    b->counts.held++;
+    b->counts.used += ADDITION;
+}
+
+/* A journal with two consignors, as it could be kept before there was this rule. */
+static void ask_forced(void)
+{
+    for (enum whose whose = OURS; whose < WHOSE; whose++) {
+        struct batch b = open_batch(3 * GOOD_STEP, 3 * ADDITION);
+        uint8_t line[GOOD_STEP];
+        add_of(&b, OURS, 1, FUGANOREZI_GOOD);
+        add_of(&b, NOBODYS, 2, FUGANOREZI_GOOD);
+        put_record_of(line, whose, 3);
+        force_addition(&b, line);
+        if (different(OURS, whose))
+            ask_refused_all("two consignors", &b, FUGANOREZI_BATCH_DISAGREES);
+        else
+            ask_accepted("one consignor", whose, &b, UNDO, NULL, 0);
+    }
+}
+
+static void ask_consignors(void)
+{
+    ask_rows();
+    ask_choice();
+    ask_turn();
+    ask_forced();
+}
+
+/* Tables of postcodes */
 
 /* Before 237 and 236, behind 235; and opening takes no table. */
 static void ask_under_wrong_table(const char *what)
@@ -539,6 +665,7 @@ int main(int count, char **words)
     ask_example_15();
     ask_wrong_lengths();
     ask_refusals();
+    ask_consignors();
     ask_tables();
     ask_vectors(words[1], words[2]);
     ask_full_file();

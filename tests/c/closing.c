@@ -1,6 +1,6 @@
 /*
  * The closing check from C: the judged vectors, every prefix of a file of sets, the largest files with a set broken in
- * each way, and tables of postcodes.
+ * each way, records of several consignors, and tables of postcodes.
  */
 #define _DEFAULT_SOURCE /* for fenced.h */
 #include "asking.h"
@@ -105,6 +105,8 @@ static void ask_own_refusal_first(void)
     ask_refused("a broken set, and a file that is no good", file, sizeof file, 34, MOST_RECORDS, 15);
     put_postcode(record_of(file, MOST_RECORDS), 11001);
     ask_refused("a broken set, and a postcode that is not there", file, sizeof file, 24, MOST_RECORDS, 5);
+    put_record_of(record_of(file, MOST_RECORDS), OTHER_TYPE, MOST_RECORDS);
+    ask_refused("a broken set, and another consignor", file, sizeof file, 241, MOST_RECORDS, 1);
     put_sets(file, MOST_RECORDS, PIECES);
 }
 
@@ -160,6 +162,7 @@ int main(int count, char **words)
     start(fuganorezi_closing_check);
     ask_no_bytes();
     ask_sets();
+    ask_consignors();
     ask_tables();
     ask_each(words[1], words[2], UNDER_TABLE, JUDGED_NUMBERS, ask_judged);
     return summary("closing");

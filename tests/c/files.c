@@ -1,6 +1,6 @@
 /*
- * The file check from C: the judged vectors, every prefix of a good file, the largest files, the paper's example 14, and
- * tables of postcodes.
+ * The file check from C: the judged vectors, every prefix of a good file, the largest files, the paper's example 14,
+ * records of several consignors, and tables of postcodes.
  */
 #define _DEFAULT_SOURCE /* for fenced.h */
 #include "asking.h"
@@ -112,6 +112,23 @@ static void ask_made_files(void)
     ask_accepted("999 records again", file, MOST_RECORDS);
 }
 
+/* The main consignment of a piece may be anybody's. */
+static void ask_main_consignment(void)
+{
+    uint8_t file[2 * GOOD_STEP], *second = file + GOOD_STEP;
+    for (enum whose whose = OURS; whose < WHOSE; whose++) {
+        char main[14];
+        identifier_of(whose, 3, main);
+        put_record_of(file, OURS, 1);
+        put_record_of(second, OURS, 2);
+        put_field(second, 18, "70");
+        put_field(second, 22, main);
+        put_field(second, 23, "02");
+        put_field(second, 24, "02");
+        ask_one_consignor("main consignment", whose, file, 2, 0);
+    }
+}
+
 static void ask_judged(const char *path, unsigned long number, const struct table *table, const struct item *item,
                        const uint64_t *expected)
 {
@@ -127,6 +144,8 @@ int main(int count, char **words)
     ask_no_bytes();
     ask_example_14();
     ask_made_files();
+    ask_consignors();
+    ask_main_consignment();
     ask_tables();
     ask_each(words[1], words[2], UNDER_TABLE, NUMBERS, ask_judged);
     return summary("files");

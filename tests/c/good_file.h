@@ -1,6 +1,7 @@
 /*
  * Good K files of any number of records, for tests and measurements. A record is made from its
- * number alone, so its part in the totals is known, and no two have the same identifier.
+ * number alone, so its part in the totals is known, and no two have the same identifier. All are of
+ * one consignor, or of none.
  */
 #ifndef GOOD_FILE_H
 #define GOOD_FILE_H
@@ -55,19 +56,26 @@ static inline unsigned check_digit_of(const char nine_digits[9])
     return remainder == 0 ? 5 : remainder == 1 ? 0 : 11 - remainder;
 }
 
-/* BO, consignor 54, the record's number as posting number. */
-static inline void good_identifier(unsigned number, char text[14])
+/* BO, nine digits that have the consignor's number in front and the posting number behind it, and the consignor's type. */
+static inline void identifier_with(unsigned nine_digits, char type, char text[14])
 {
     char digits[16];
-    snprintf(digits, sizeof digits, "54%07u", number % 10000000);
-    snprintf(text, 14, "BO%.9s%uF", digits, check_digit_of(digits));
+    snprintf(digits, sizeof digits, "%09u", nine_digits % 1000000000);
+    snprintf(text, 14, "BO%.9s%u%c", digits, check_digit_of(digits), type);
 }
 
-static inline void good_identifier_abroad(unsigned number, char text[14])
+/* EE and CZ, which names no consignor; the posting number alone. */
+static inline void identifier_with_cz(unsigned number, char text[14])
 {
     char digits[16];
     snprintf(digits, sizeof digits, "0%08u", number % 100000000);
     snprintf(text, 14, "EE%.8s%uCZ", digits + 1, check_digit_of(digits));
+}
+
+/* Consignor 54, the record's number as posting number. */
+static inline void good_identifier(unsigned number, char text[14])
+{
+    identifier_with(540000000 + number % 10000000, 'F', text);
 }
 
 enum good_kind { GOOD_PLAIN, GOOD_ON_DELIVERY, GOOD_ABROAD, GOOD_NOTICE, GOOD_CANCELLED, GOOD_PIECE };
@@ -144,7 +152,7 @@ static inline void put_good_record(uint8_t *record, unsigned number)
     char identifier[14];
     enum good_kind kind = good_kind(number);
     if (kind == GOOD_ABROAD)
-        good_identifier_abroad(number, identifier);
+        identifier_with_cz(number, identifier);
     else
         good_identifier(number, identifier);
     memset(record, ' ', GOOD_STEP - 2);

@@ -1,9 +1,10 @@
 /*
  * The record check from C: the judged vectors, our own records of each code and place, every length, a byte that no field
- * may hold at each place, a record that is to be posted, and tables of postcodes. What is asked about and the table end
- * where memory that cannot be read begins, and cannot be written during the call.
+ * may hold at each place, a record that is to be posted, consignors, and tables of postcodes. What is asked about and the
+ * table end where memory that cannot be read begins, and cannot be written during the call.
  */
 #define _DEFAULT_SOURCE /* for fenced.h */
+#include "consignors.h"
 #include "fenced.h"
 #include "fuganorezi.h"
 #include "good_file.h"
@@ -12,22 +13,33 @@
 enum { RECORD = FUGANOREZI_RECORD_LENGTH, LONGEST = 65536, CONTROL_BYTE = 1 };
 
 /* What comes by value has to lie as in the archive. */
-_Static_assert(offsetof(fuganorezi_answer, place) == 4, "behind the code");
-_Static_assert(sizeof(fuganorezi_answer) == 8, "and nothing more");
+_Static_assert(offsetof(fuganorezi_record, place) == 4, "behind the code");
+_Static_assert(offsetof(fuganorezi_record, consignor) == 8, "behind the place");
+_Static_assert(sizeof(fuganorezi_record) == 8 + sizeof(fuganorezi_consignor), "and nothing more");
 
-typedef fuganorezi_answer record_check(const uint8_t *bytes, size_t length, const uint32_t *table, size_t entries);
+typedef fuganorezi_record record_check(const uint8_t *bytes, size_t length, const uint32_t *table, size_t entries);
 
 static struct fenced memory;
+
+/* Whose a record is: what reading field 1 gives, which is tested by itself. */
+static fuganorezi_consignor consignor_in(const uint8_t *bytes, size_t length)
+{
+    const fuganorezi_consignor nobody = {0, 0};
+    return length == RECORD ? fuganorezi_identifier_read(bytes, FUGANOREZI_WIDTH_1).consignor : nobody;
+}
 
 static void ask(const char *what, unsigned long number, record_check *check, const uint8_t *bytes, size_t length,
                 uint64_t code, uint64_t place)
 {
     const uint8_t *there = put_before_fence(memory, bytes, length);
+    const fuganorezi_consignor whose = consignor_in(bytes, length);
     protect(memory, PROT_READ);
-    fuganorezi_answer answer = check(there, length, lent.entries, lent.count);
+    fuganorezi_record answer = check(there, length, lent.entries, lent.count);
     protect(memory, PROT_READ | PROT_WRITE);
     expect(what, number, answer.code, code);
     expect(what, number, answer.place, place);
+    expect(what, number, answer.consignor.type, whose.type);
+    expect(what, number, answer.consignor.number, whose.number);
 }
 
 static void ask_both(const char *what, unsigned long number, const uint8_t *bytes, size_t length, uint64_t code,
@@ -46,8 +58,10 @@ static void ask_lengths(void)
             ask_both("a good record", length, two, length, FUGANOREZI_GOOD, 0);
         else
             ask_both("of another length", length, two, length, FUGANOREZI_WRONG_LENGTH, 0);
-    fuganorezi_answer answer = fuganorezi_record_check(NULL, 0, NULL, 0);
+    fuganorezi_record answer = fuganorezi_record_check(NULL, 0, NULL, 0);
     expect("NULL", 0, answer.code, FUGANOREZI_WRONG_LENGTH);
+    expect("NULL", 1, answer.consignor.type, 0);
+    expect("NULL", 2, answer.consignor.number, 0);
 }
 
 /* The field that the constants of the header say has this byte. */
@@ -77,6 +91,47 @@ static void ask_cancelled(void)
     put_good_record(record, GOOD_CANCELLED);
     ask("cancelled, in a file", 0, fuganorezi_record_check, record, RECORD, FUGANOREZI_GOOD, 0);
     ask("cancelled, to be posted", 0, fuganorezi_record_check_posting, record, RECORD, FUGANOREZI_MALFORMED, 19);
+}
+
+/* ---- consignors */
+
+static void expect_consignor(const char *what, unsigned long number, const uint8_t *record, size_t length,
+                             enum whose expected)
+{
+    const fuganorezi_consignor whose = consignors[expected].consignor;
+    static record_check *const checks[] = {fuganorezi_record_check, fuganorezi_record_check_posting};
+    for (size_t i = 0; i < 2; i++) {
+        fuganorezi_record answer = checks[i](record, length, lent.entries, lent.count);
+        expect(what, number, answer.consignor.type, whose.type);
+        expect(what, number, answer.consignor.number, whose.number);
+    }
+}
+
+/* Of a record of each consignor, accepted, refused by any rule but that of its identifier, and under a wrong table. */
+static void ask_consignors(void)
+{
+    static const uint32_t falling[] = {60200, 11000};
+    uint8_t record[GOOD_STEP];
+    char main[14];
+    for (enum whose whose = OURS; whose < WHOSE; whose++) {
+        put_record_of(record, whose, 1);
+        expect_consignor("consignor of a good record", whose, record, RECORD, whose);
+        expect_consignor("consignor of a short record", whose, record, RECORD - 1, NOBODYS);
+        identifier_of(whose == OURS ? OTHER_TYPE : OURS, 2, main);
+        put_field(record, 22, main);
+        expect_consignor("consignor beside a main consignment", whose, record, RECORD, whose);
+        put_field(record, 15, "      ");
+        expect_consignor("consignor without weight", whose, record, RECORD, whose);
+        put_field(record, 2, "?");
+        expect_consignor("consignor of a malformed record", whose, record, RECORD, whose);
+        lend_table(falling, 2);
+        expect_consignor("consignor under a wrong table", whose, record, RECORD, whose);
+        expect_consignor("consignor of a short record under a wrong table", whose, record, RECORD - 1, NOBODYS);
+        put_field(record, 1, "?");
+        expect_consignor("consignor without identifier under a wrong table", whose, record, RECORD, NOBODYS);
+        lend_table(good_table, GOOD_ENTRIES);
+        expect_consignor("consignor without identifier", whose, record, RECORD, NOBODYS);
+    }
 }
 
 /* ---- tables */
@@ -131,6 +186,7 @@ int main(int count, char **words)
     ask_lengths();
     ask_each_place();
     ask_cancelled();
+    ask_consignors();
     ask_tables();
     ask_each(words[1], words[2], UNDER_TABLE, 2, ask_judged);
     ask_each(words[3], words[4], UNDER_TABLE, 2, ask_judged);

@@ -63,15 +63,16 @@ static void ask_version(void)
 
 int main(int count, char **words)
 {
-    if (count != 8)
-        give_up(words[0], "wants the lines of identifiers, records, rules, files, closing, kcheck and histories");
+    if (count != 9)
+        give_up(words[0], "wants the lines of identifiers, records, rules, files, closing, kcheck, consignors and histories");
     ask_lines(words[1], 2, 1);
     ask_lines(words[2], 2, 1);
     ask_lines(words[3], 2, 1);
     ask_lines(words[4], 7, 2);
     ask_lines(words[5], 3, 2);
     ask_lines(words[6], 7, 2);
-    ask_lines(words[7], 10, 1);
+    ask_lines(words[7], 4, 1);
+    ask_lines(words[8], 10, 1);
     ask_no_words();
     ask_fields();
     ask_version();

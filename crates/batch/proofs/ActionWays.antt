@@ -20,7 +20,11 @@ use Rattle.ident.specs.Identifier.{rightId}
 use Rattle.ident.specs.Calls.{Checked}
 use Rattle.layout.specs.Layout.{fieldOf}
 use Rattle.text.proofs.AnswerLaws.{or-first, or-second}
+use Rattle.ident.specs.declared.consignor.Consignor.{Consignor}
+use Rattle.ident.specs.Consignor.{another}
+use Rattle.record.specs.declared.RecordCheck.{RecordCheck}
 use Rattle.record.specs.Rules.{toPost, recordAnswer}
+use Rattle.record.specs.Consignors.{consignorOf, withConsignor}
 use Rattle.posting.specs.File.{lineOf, idAt}
 use Rattle.batch.specs.Places.{recordNumber, liveAnswer, addAnswer, amendAnswer, cancelAnswer, withLine, actionAnswer}
 
@@ -58,32 +62,46 @@ module _ (file id : List ℕ) (held n : ℕ) (en : (n ≡ recordNumber file id h
 
 -- ---- add_answer, amend_answer, cancel_answer, action_answer
 
-module _ (known : Known) (file rec : List ℕ) (held : ℕ) (a : Answer) (ea : a ≡ recordAnswer (toPost known) rec) where
-  pub add-broken : (a .code ≡ 0 → ⊥) → a ≡ addAnswer known file held rec
-  unfolding addAnswer
-  add-broken n = rw (← ea) (or-first a _ n)
+module _ (known : Known) (file rec : List ℕ) (held : ℕ) (k : RecordCheck) (ek : k ≡ withConsignor (recordAnswer (toPost known) rec) rec) where
+  abbrev a : Answer
+  a = k .answer
 
-  pub amend-broken : (a .code ≡ 0 → ⊥) → a ≡ amendAnswer known file held rec
+  ea : a ≡ recordAnswer (toPost known) rec
+  ea = ap (λ (x : RecordCheck). x .answer) ek
+
+  pub add-broken : (seen : Consignor) → (k .answer .code ≡ 0 → ⊥) → k .answer ≡ addAnswer known file held seen rec
+  unfolding addAnswer
+  add-broken seen n = rw (← ea) (or-first a _ n)
+
+  pub amend-broken : (k .answer .code ≡ 0 → ⊥) → k .answer ≡ amendAnswer known file held rec
   unfolding amendAnswer
   amend-broken n = rw (← ea) (or-first a _ n)
 
-  module _ (z : a .code ≡ 0) (id : List ℕ) (ei : id ≡ fieldOf rec 1) where
+  module _ (z : k .answer .code ≡ 0) (id : List ℕ) (ei : id ≡ fieldOf rec 1) where
     pub amend-live : (r : Answer) → r ≡ liveAnswer file held id → r ≡ amendAnswer known file held rec
     unfolding amendAnswer
     amend-live r e = rw (← ea, ← ei) (e ∙ or-second a (liveAnswer file held id) z)
 
     module _ (n : ℕ) (en : (n ≡ recordNumber file id held) × (n ≤ held)) where
-      pub add-repeats : (n ≡ 0 → ⊥) → answer 2 1 ≡ addAnswer known file held rec
+      pub add-repeats : (seen : Consignor) → (n ≡ 0 → ⊥) → answer 2 1 ≡ addAnswer known file held seen rec
       unfolding addAnswer
-      add-repeats m = rw (← ea, ← ei, ← en .0, ne-eqb n 0 m) (or-second a (answer 2 1) z)
+      add-repeats seen m = rw (← ea, ← ei, ← en .0, ne-eqb n 0 m) (or-second a (answer 2 1) z)
 
-      pub add-room : n ≡ 0 → held * 401 + 401 ≤ length file → accepted ≡ addAnswer known file held rec
-      unfolding addAnswer
-      add-room m h = rw (← ea, ← ei, ← en .0, eq-eqb n 0 m, le-leb (held * 401 + 401) (length file) h) (or-second a accepted z)
+      module _ (m : n ≡ 0) (seen : Consignor) (w : Bool) (ew : w ≡ another seen (k .consignor)) where
+        other : another seen (consignorOf rec) ≡ w
+        other = ap (λ (x : RecordCheck). another seen (x .consignor)) (sym ek) ∙ sym ew
 
-      pub add-full : n ≡ 0 → length file < held * 401 + 401 → answer 230 0 ≡ addAnswer known file held rec
-      unfolding addAnswer
-      add-full m h = rw (← ea, ← ei, ← en .0, eq-eqb n 0 m, lt-leb (held * 401 + 401) (length file) h) (or-second a (answer 230 0) z)
+        pub add-strays : w ≡ true → answer 241 1 ≡ addAnswer known file held seen rec
+        unfolding addAnswer
+        add-strays t = rw (← ea, other, ← ei, ← en .0, eq-eqb n 0 m, t) (or-second a (answer 241 1) z)
+
+        pub add-room : w ≡ false → held * 401 + 401 ≤ length file → accepted ≡ addAnswer known file held seen rec
+        unfolding addAnswer
+        add-room t h = rw (← ea, other, ← ei, ← en .0, eq-eqb n 0 m, t, le-leb (held * 401 + 401) (length file) h) (or-second a accepted z)
+
+        pub add-full : w ≡ false → length file < held * 401 + 401 → answer 230 0 ≡ addAnswer known file held seen rec
+        unfolding addAnswer
+        add-full t h = rw (← ea, other, ← ei, ← en .0, eq-eqb n 0 m, t, lt-leb (held * 401 + 401) (length file) h) (or-second a (answer 230 0) z)
 
 module _ (file id : List ℕ) (held : ℕ) (a : Answer) (ea : Checked id a) where
   pub cancel-broken : (a .code ≡ 0 → ⊥) → a ≡ cancelAnswer file held id
@@ -102,17 +120,17 @@ module _ (file id : List ℕ) (held : ℕ) (a : Answer) (ea : Checked id a) wher
       go true q = refl
       go false q = absurd (let w : _≡_ {A = ℕ} 1 0 = sym (ap (λ (x : Answer). x .code) ea ∙ rw q) ∙ z in omega arith)
 
-pub action-add : (known : Known) (file body : List ℕ) (held kind : ℕ) (r : Answer) → kind ≡ 1 → r ≡ addAnswer known file held body → r ≡ actionAnswer known file held kind body
+pub action-add : (known : Known) (file body : List ℕ) (held : ℕ) (seen : Consignor) (kind : ℕ) (r : Answer) → kind ≡ 1 → r ≡ addAnswer known file held seen body → r ≡ actionAnswer known file held seen kind body
 unfolding actionAnswer
-action-add known file body held kind r k e = rw (eq-eqb kind 1 k) e
+action-add known file body held seen kind r k e = rw (eq-eqb kind 1 k) e
 
-pub action-amend : (known : Known) (file body : List ℕ) (held kind : ℕ) (r : Answer) → (kind ≡ 1 → ⊥) → kind ≡ 3 → r ≡ amendAnswer known file held body → r ≡ actionAnswer known file held kind body
+pub action-amend : (known : Known) (file body : List ℕ) (held : ℕ) (seen : Consignor) (kind : ℕ) (r : Answer) → (kind ≡ 1 → ⊥) → kind ≡ 3 → r ≡ amendAnswer known file held body → r ≡ actionAnswer known file held seen kind body
 unfolding actionAnswer
-action-amend known file body held kind r n k e = rw (ne-eqb kind 1 n, eq-eqb kind 3 k) e
+action-amend known file body held seen kind r n k e = rw (ne-eqb kind 1 n, eq-eqb kind 3 k) e
 
-pub action-cancel : (known : Known) (file body : List ℕ) (held kind : ℕ) (r : Answer) → (kind ≡ 1 → ⊥) → (kind ≡ 3 → ⊥) → r ≡ cancelAnswer file held body → r ≡ actionAnswer known file held kind body
+pub action-cancel : (known : Known) (file body : List ℕ) (held : ℕ) (seen : Consignor) (kind : ℕ) (r : Answer) → (kind ≡ 1 → ⊥) → (kind ≡ 3 → ⊥) → r ≡ cancelAnswer file held body → r ≡ actionAnswer known file held seen kind body
 unfolding actionAnswer
-action-cancel known file body held kind r n m e = rw (ne-eqb kind 1 n, ne-eqb kind 3 m) e
+action-cancel known file body held seen kind r n m e = rw (ne-eqb kind 1 n, ne-eqb kind 3 m) e
 
 -- ---- write_line: the record's bytes from the front on
 pub copied-on : (s t : List ℕ) (i : ℕ) → i < length s → i < length t → set (take i t ++ drop i s) i (getD t i 0) ≡ take (i + 1) t ++ drop (i + 1) s

@@ -16,13 +16,16 @@ use Rattle.text.specs.Answers.{answer, accepted, orElse, wrongLength}
 use Rattle.text.proofs.Booleans.{clash, by-cond}
 use Rattle.ident.specs.Identifier.{rightId}
 use Rattle.record.specs.Codes.{tableCodes, lacks}
+use Rattle.record.specs.Consignors.{strays}
+use Rattle.record.proofs.Consignors.{strays-exactly, strays-not}
 use Rattle.record.specs.Outcomes.{ExactlyAt}
 use Rattle.record.proofs.Codes.{lacks-other}
 use Rattle.record.proofs.Turns.{never-given}
 use Rattle.batch.specs.Actions.{Action, Addition, Amendment, Cancellation, kindOf, bodyOf, sized, entryLength}
+use Rattle.batch.specs.Records.{recordsOf}
 use Rattle.batch.specs.Rules.{Verdict, posted, Fit, batchCodes, isPresent, isCancelledThere, liveRule, actionRule, entryRule, ruleBehind}
 use Rattle.batch.specs.Batch.{Batch, Call, Open, Add, Amend, Cancel, Undo, rightLengths, State, undoRule, rules, fileLength, journalLength, answerTo}
-use Rattle.batch.specs.History.{callOf, GoodBuffers, NothingStands, SomeStands, WrongSize, bodyAnswer, BodyMeets, idIn, isAddition, AddedTwice, NotPresent, IsCancelled, NoPlaceLeft, NoRoomLeft, KeepsAll, WrongIdentifier, NoAction, SomeAction}
+use Rattle.batch.specs.History.{callOf, GoodBuffers, NothingStands, SomeStands, WrongSize, bodyAnswer, BodyMeets, idIn, isAddition, AddedTwice, NamesAnother, NotPresent, IsCancelled, NoPlaceLeft, NoRoomLeft, KeepsAll, WrongIdentifier, NoAction, SomeAction}
 use Rattle.batch.proofs.Standing.{stands-once}
 use Rattle.batch.proofs.Made.{accepted-if}
 use Rattle.batch.proofs.CallsMet.{lengths-exactly, open-answers, Meets, wrong-lengths, nothing, by-rules, meets, undo-is-none, opening-or-other}
@@ -34,11 +37,14 @@ use Rattle.batch.proofs.History.{call-rules, no-opening, zero-accepted}
 abbrev placeRule : List (List ℕ) → ℕ → Answer
 placeRule recs places = cond (ltb (length recs) places) accepted (answer 230 0)
 
-abbrev addRule : List (List ℕ) → ℕ → List ℕ → Answer
-addRule recs places id = cond (isPresent recs id) (answer 2 1) (placeRule recs places)
+abbrev consignorRule : List (List ℕ) → ℕ → List ℕ → Answer
+consignorRule recs places rec = cond (strays recs rec) (answer 241 1) (placeRule recs places)
+
+abbrev addRule : List (List ℕ) → ℕ → List ℕ → List ℕ → Answer
+addRule recs places id rec = cond (isPresent recs id) (answer 2 1) (consignorRule recs places rec)
 
 abbrev recordsRule : List (List ℕ) → ℕ → Action → Answer
-recordsRule recs places a = cond (isAddition a) (addRule recs places (idIn a)) (liveRule recs (idIn a))
+recordsRule recs places a = cond (isAddition a) (addRule recs places (idIn a) (bodyOf a)) (liveRule recs (idIn a))
 
 action-is : (v : Verdict) (recs : List (List ℕ)) (places : ℕ) (a : Action) → actionRule v recs places a ≡ orElse (bodyAnswer v a) (recordsRule recs places a)
 unfolding actionRule orElse
@@ -59,7 +65,7 @@ body-apart v fit (Cancellation id) z = by-cond (λ (r : Answer). lacks (r .code)
 
 -- the codes of the rules behind it
 abbrev addCodes : List ℕ
-addCodes = 0 ∷ 2 ∷ 230 ∷ []
+addCodes = 0 ∷ 2 ∷ 241 ∷ 230 ∷ []
 
 abbrev liveCodes : List ℕ
 liveCodes = 0 ∷ 232 ∷ 233 ∷ []
@@ -67,14 +73,15 @@ liveCodes = 0 ∷ 232 ∷ 233 ∷ []
 abbrev roomCodes : List ℕ
 roomCodes = 0 ∷ 231 ∷ []
 
-never-add : (c : ℕ) → lacks c addCodes ≡ true → (recs : List (List ℕ)) (places : ℕ) (id : List ℕ) → Never c (addRule recs places id)
+never-add : (c : ℕ) → lacks c addCodes ≡ true → (recs : List (List ℕ)) (places : ℕ) (id rec : List ℕ) → Never c (addRule recs places id rec)
 unfolding lacks
-never-add c l recs places id = go (isPresent recs id) (ltb (length recs) places)
+never-add c l recs places id rec = go (isPresent recs id) (strays recs rec) (ltb (length recs) places)
   where
-    go : (p r : Bool) → Never c (cond p (answer 2 1) (cond r accepted (answer 230 0)))
-    go true r = lacks-other c 2 addCodes refl l
-    go false true = lacks-other c 0 addCodes refl l
-    go false false = lacks-other c 230 addCodes refl l
+    go : (p w r : Bool) → Never c (cond p (answer 2 1) (cond w (answer 241 1) (cond r accepted (answer 230 0))))
+    go true w r = lacks-other c 2 addCodes refl l
+    go false true r = lacks-other c 241 addCodes refl l
+    go false false true = lacks-other c 0 addCodes refl l
+    go false false false = lacks-other c 230 addCodes refl l
 
 never-live : (c : ℕ) → lacks c liveCodes ≡ true → (recs : List (List ℕ)) (id : List ℕ) → Never c (liveRule recs id)
 unfolding lacks
@@ -98,7 +105,7 @@ module _ {known : Known} (v : Verdict) (fit : Fit known v) (recs : List (List �
   never-body c own z e = lacks-other (bodyAnswer v a .code) c batchCodes own (body-apart v fit a z) (sym e)
 
   never-records : (c : ℕ) → lacks c addCodes ≡ true → lacks c liveCodes ≡ true → Never c (recordsRule recs places a)
-  never-records c l k = by-cond (Never c) (isAddition a) _ _ (λ e. never-add c l recs places (idIn a)) (λ e. never-live c k recs (idIn a))
+  never-records c l k = by-cond (Never c) (isAddition a) _ _ (λ e. never-add c l recs places (idIn a) (bodyOf a)) (λ e. never-live c k recs (idIn a))
 
   never-action : (c : ℕ) → lacks c batchCodes ≡ false → lacks c addCodes ≡ true → lacks c liveCodes ≡ true → sized a ≡ true → Never c (actionRule v recs places a)
   never-action c own l k z = rw (action-is v recs places a) (never-or c (bodyAnswer v a) _ (never-body c own z) (never-records c l k))
@@ -120,7 +127,7 @@ module _ {known : Known} (v : Verdict) (fit : Fit known v) (recs : List (List �
   unfolding entryRule lacks
   body-exactly c other =
       let no : (x : ℕ) → lacks x (0 ∷ batchCodes) ≡ false → x ≡ c → ⊥ = λ x there. lacks-other c x (0 ∷ batchCodes) there other in
-      let adds : lacks c addCodes ≡ true = rw (ne-eqb 0 c (no 0 refl), ne-eqb 2 c (no 2 refl), ne-eqb 230 c (no 230 refl)) in
+      let adds : lacks c addCodes ≡ true = rw (ne-eqb 0 c (no 0 refl), ne-eqb 2 c (no 2 refl), ne-eqb 241 c (no 241 refl), ne-eqb 230 c (no 230 refl)) in
       let lives : lacks c liveCodes ≡ true = rw (ne-eqb 0 c (no 0 refl), ne-eqb 232 c (no 232 refl), ne-eqb 233 c (no 233 refl)) in
       let room-left : lacks c roomCodes ≡ true = rw (ne-eqb 0 c (no 0 refl), ne-eqb 231 c (no 231 refl)) in
       in-words (λ k. record { size = eqb-true _ _ (k .0); says = k .1 }) (λ k. (eq-eqb _ _ (k .size), k .says))
@@ -144,22 +151,37 @@ module _ {known : Known} (v : Verdict) (fit : Fit known v) (recs : List (List �
   abbrev there : Bool
   there = isPresent recs (idIn a)
 
+  abbrev stray : Bool
+  stray = strays recs (bodyOf a)
+
   -- 2
   twice-exactly : ExactlyAt 2 1 (BodyMeets v a 0 × ((isAddition a ≡ true) × (there ≡ true))) (entryRule v recs places room a)
   unfolding lacks
   twice-exactly =
       of-records 2 1 refl refl
       (past-yes (isAddition a) _ (liveRule recs (idIn a))
-      (λ t. at-yes there (answer 2 1) (placeRule recs places) refl (λ f. by-cond (Never 2) (ltb (length recs) places) _ _ (λ y e. omega (arith, e)) (λ y e. omega (arith, e))))
+      (λ t. at-yes there (answer 2 1) (consignorRule recs places (bodyOf a)) refl
+      (λ f. by-cond (Never 2) stray _ _ (λ y e. omega (arith, e)) (λ y. by-cond (Never 2) (ltb (length recs) places) _ _ (λ x e. omega (arith, e)) (λ x e. omega (arith, e)))))
       (never-live 2 refl recs (idIn a)))
 
+  -- 241
+  another-exactly : ExactlyAt 241 1 (BodyMeets v a 0 × ((isAddition a ≡ true) × ((there ≡ false) × (stray ≡ true)))) (entryRule v recs places room a)
+  unfolding lacks
+  another-exactly =
+      of-records 241 1 refl refl
+      (past-yes (isAddition a) _ (liveRule recs (idIn a))
+      (λ t. past-no there (answer 2 1) (consignorRule recs places (bodyOf a)) (λ e. omega (arith, e))
+      (λ f. at-yes stray (answer 241 1) (placeRule recs places) refl (λ y. by-cond (Never 241) (ltb (length recs) places) _ _ (λ x e. omega (arith, e)) (λ x e. omega (arith, e)))))
+      (never-live 241 refl recs (idIn a)))
+
   -- 230
-  full-exactly : ExactlyAt 230 0 (BodyMeets v a 0 × ((isAddition a ≡ true) × ((there ≡ false) × (ltb (length recs) places ≡ false)))) (entryRule v recs places room a)
+  full-exactly : ExactlyAt 230 0 (BodyMeets v a 0 × ((isAddition a ≡ true) × ((there ≡ false) × ((stray ≡ false) × (ltb (length recs) places ≡ false))))) (entryRule v recs places room a)
   unfolding lacks
   full-exactly =
       of-records 230 0 refl refl
       (past-yes (isAddition a) _ (liveRule recs (idIn a))
-      (λ t. past-no there (answer 2 1) (placeRule recs places) (λ e. omega (arith, e)) (λ f. at-no (ltb (length recs) places) accepted (answer 230 0) (λ y e. omega (arith, e)) refl))
+      (λ t. past-no there (answer 2 1) (consignorRule recs places (bodyOf a)) (λ e. omega (arith, e))
+      (λ f. past-no stray (answer 241 1) (placeRule recs places) (λ e. omega (arith, e)) (λ g. at-no (ltb (length recs) places) accepted (answer 230 0) (λ y e. omega (arith, e)) refl)))
       (never-live 230 refl recs (idIn a)))
 
   -- 232
@@ -167,7 +189,7 @@ module _ {known : Known} (v : Verdict) (fit : Fit known v) (recs : List (List �
   unfolding lacks
   absent-exactly =
       of-records 232 0 refl refl
-      (past-no (isAddition a) _ (liveRule recs (idIn a)) (never-add 232 refl recs places (idIn a))
+      (past-no (isAddition a) _ (liveRule recs (idIn a)) (never-add 232 refl recs places (idIn a) (bodyOf a))
       (λ f. at-no there _ (answer 232 0) (λ y. by-cond (Never 232) (isCancelledThere recs (idIn a)) _ _ (λ q e. omega (arith, e)) (λ q e. omega (arith, e))) refl))
 
   -- 233
@@ -175,7 +197,7 @@ module _ {known : Known} (v : Verdict) (fit : Fit known v) (recs : List (List �
   unfolding lacks
   cancelled-exactly =
       of-records 233 0 refl refl
-      (past-no (isAddition a) _ (liveRule recs (idIn a)) (never-add 233 refl recs places (idIn a))
+      (past-no (isAddition a) _ (liveRule recs (idIn a)) (never-add 233 refl recs places (idIn a) (bodyOf a))
       (λ f. past-yes there _ (answer 232 0) (λ y. at-yes (isCancelledThere recs (idIn a)) (answer 233 0) accepted refl (λ q e. omega (arith, e))) (λ e. omega (arith, e))))
 
   -- 231
@@ -291,6 +313,14 @@ module _ {known : Known} (v : Verdict) (fit : Fit known v) (b : Batch) where
         behind v b a refl
         (λ s. in-words (λ k. record { good = k .0; adds = k .1 .0; present = k .1 .1 }) (λ k. (k .good, (k .adds, k .present))) (twice-exactly v fit _ _ _ a))
 
+    pub code-241-exactly : ExactlyAt 241 1 (SomeStands v b (NamesAnother v a)) (answerTo v b (callOf a))
+    unfolding lacks
+    code-241-exactly =
+        behind v b a refl
+        (λ s.
+        let other = strays-exactly (recordsOf (s .actions)) (bodyOf a) in
+        in-words (λ k. record { good = k .0; adds = k .1 .0; absent = k .1 .1 .0; strays = other .0 (k .1 .1 .1) }) (λ k. (k .good, (k .adds, (k .absent, other .1 (k .strays))))) (another-exactly v fit _ _ _ a))
+
     pub code-232-exactly : ExactlyAt 232 0 (SomeStands v b (NotPresent v a)) (answerTo v b (callOf a))
     unfolding lacks
     code-232-exactly =
@@ -307,7 +337,12 @@ module _ {known : Known} (v : Verdict) (fit : Fit known v) (b : Batch) where
     unfolding lacks
     code-230-exactly =
         behind v b a refl
-        (λ s. in-words (λ k. record { good = k .0; adds = k .1 .0; absent = k .1 .1 .0; full = ltb-false _ _ (k .1 .1 .1) }) (λ k. (k .good, (k .adds, (k .absent, le-ltb _ _ (k .full))))) (full-exactly v fit _ _ _ a))
+        (λ s.
+        let recs = recordsOf (s .actions) in
+        in-words
+        (λ k. record { good = k .0; adds = k .1 .0; absent = k .1 .1 .0; same = λ x. clash (strays-exactly recs (bodyOf a) .1 x) (k .1 .1 .1 .0); full = ltb-false _ _ (k .1 .1 .1 .1) })
+        (λ k. (k .good, (k .adds, (k .absent, (strays-not recs (bodyOf a) (k .same), le-ltb _ _ (k .full))))))
+        (full-exactly v fit _ _ _ a))
 
     pub code-231-exactly : ExactlyAt 231 0 (SomeStands v b (NoRoomLeft v n m a)) (answerTo v b (callOf a))
     unfolding lacks

@@ -17,6 +17,8 @@ use Rattle.text.specs.Answers.{answer, accepted, orElse}
 use Rattle.text.specs.Lists.{overlay}
 use Rattle.text.proofs.Booleans.{clash}
 use Rattle.text.proofs.Lists.{put-is}
+use Rattle.ident.specs.declared.consignor.Consignor.{Consignor}
+use Rattle.record.specs.Consignors.{firstOf}
 use Rattle.posting.specs.File.{totalsOver}
 use Rattle.posting.specs.Sums.{kept}
 use Rattle.posting.proofs.Amounts.{small-so-far}
@@ -39,23 +41,23 @@ use Rattle.batch.proofs.LentTable.{right-answers, right-leaves, refused
 use Rattle.batch.proofs.Entering.{entry-ruled, entry-enters}
 
 -- ---- enter
-module _ (known : Known) (file journal body : List ℕ) (c : Counts) (kind n : ℕ) (pre : Ready file journal c) (en : (n ≡ bodyLength kind) × (13 ≤ n) × (n ≤ 399)) where
+module _ (known : Known) (file journal body : List ℕ) (c : Counts) (seen : Consignor) (kind n : ℕ) (pre : Ready file journal c) (en : (n ≡ bodyLength kind) × (13 ≤ n) × (n ≤ 399)) where
   abbrev here : Batch
   here = batchOf file journal c
 
-  worked-by : (a : Answer) → entryAnswer known here kind body ≡ a → (a .code ≡ 0 → ⊥) → Worked known file journal c kind body (record { answer = a; counts = c }) file journal
+  worked-by : (a : Answer) → entryAnswer known here seen kind body ≡ a → (a .code ≡ 0 → ⊥) → Worked known file journal c seen kind body (record { answer = a; counts = c }) file journal
   worked-by a e z = record { answers = sym e; leaves = rw (e, ne-eqb (a .code) 0 z) }
 
-  pub enter-size : (length body ≡ n → ⊥) → Worked known file journal c kind body (record { answer = answer 236 0; counts = c }) file journal
+  pub enter-size : (length body ≡ n → ⊥) → Worked known file journal c seen kind body (record { answer = answer 236 0; counts = c }) file journal
   unfolding entryAnswer
   enter-size m = worked-by (answer 236 0) (rw (← en .0, ne-eqb (length body) n m)) (λ e. omega (arith, e))
 
-  module _ (long : length body ≡ n) (a : Answer) (ea : a ≡ actionAnswer known file (c .held) kind body) where
-    pub enter-refused : (a .code ≡ 0 → ⊥) → Worked known file journal c kind body (record { answer = a; counts = c }) file journal
+  module _ (long : length body ≡ n) (a : Answer) (ea : a ≡ actionAnswer known file (c .held) seen kind body) where
+    pub enter-refused : (a .code ≡ 0 → ⊥) → Worked known file journal c seen kind body (record { answer = a; counts = c }) file journal
     unfolding entryAnswer orElse
     enter-refused z = worked-by a (rw (← en .0, eq-eqb (length body) n long, ← ea, ne-eqb (a .code) 0 z)) z
 
-    pub enter-full : a .code ≡ 0 → length journal - c .used < n + 4 → Worked known file journal c kind body (record { answer = answer 231 0; counts = c }) file journal
+    pub enter-full : a .code ≡ 0 → length journal - c .used < n + 4 → Worked known file journal c seen kind body (record { answer = answer 231 0; counts = c }) file journal
     unfolding entryAnswer orElse
     enter-full z h =
         worked-by (answer 231 0)
@@ -63,7 +65,7 @@ module _ (known : Known) (file journal body : List ℕ) (c : Counts) (kind n : �
         (λ e. omega (arith, e))
 
     pub enter-acceptable : a .code ≡ 0 → Acceptable file (c .held) kind body
-    enter-acceptable z = record { few = pre .few; fits = pre .fits; sized = long ∙ en .0; known = known; accepts = rw (← ea) z }
+    enter-acceptable z = record { few = pre .few; fits = pre .fits; sized = long ∙ en .0; known = known; seen = seen; accepts = rw (← ea) z }
 
     pub enter-countable : a .code ≡ 0 → Countable file c kind body
     enter-countable z = record {
@@ -74,11 +76,11 @@ module _ (known : Known) (file journal body : List ℕ) (c : Counts) (kind n : �
 
     pub enter-done : (counts : Counts) (file′ journal′ : List ℕ) → a .code ≡ 0 → n + 4 ≤ length journal - c .used → counts ≡ countsAfter file c kind body
         → file′ ≡ actionFile file (c .held) kind body → journal′ ≡ overlay journal (c .used) (entry kind body)
-        → Worked known file journal c kind body (record { answer = accepted; counts = counts }) file′ journal′
+        → Worked known file journal c seen kind body (record { answer = accepted; counts = counts }) file′ journal′
     unfolding entryAnswer orElse entered countsAfter
     enter-done counts file′ journal′ z h ec ef ej =
         let fits : c .used + (n + 4) ≤ length journal = omega (arith, pre .within) in
-        let e : entryAnswer known here kind body ≡ accepted = rw (← en .0, eq-eqb (length body) n long, ← ea, eq-eqb (a .code) 0 z, le-leb (c .used + (n + 4)) (length journal) fits) in
+        let e : entryAnswer known here seen kind body ≡ accepted = rw (← en .0, eq-eqb (length body) n long, ← ea, eq-eqb (a .code) 0 z, le-leb (c .used + (n + 4)) (length journal) fits) in
         record { answers = sym e; leaves = rw (e, ec, ef, ej) }
 
 -- ---- behind the guard
@@ -163,21 +165,22 @@ module _ (psc file journal : List ℕ) (c : Counts) (g : Gate) (eg : Guarded psc
 
       -- an action, by what its work left: one law for add, amend and cancel
       pub work-done : (a : Action) (r : Outcome) (file′ journal′ : List ℕ) → ((s : State) → rules v (length file) (length journal) s call ≡ ruleBehind v (length file) (length journal) (s .actions) a) → ((s : State) → next s call ≡ with s a)
-          → Worked (found psc) file journal c (numberOf a) (bodyOf a) r file′ journal′ → Called psc this call (r .answer) (r .counts) file′ journal′
+          → Worked (found psc) file journal c (g .seen) (numberOf a) (bodyOf a) r file′ journal′ → Called psc this call (r .answer) (r .counts) file′ journal′
       work-done a r file′ journal′ er en w =
           let f = eg .if-so z .found in
           let s = f .what in
           let st = f .stands in
-          let answered : answerTo v this call ≡ entryAnswer (found psc) this (numberOf a) (bodyOf a) = answered-by-rules v this s st call ∙ er s ∙ sym (entry-ruled (found psc) this s st a) in
-          done-as (r .answer) (r .counts) file′ journal′ (w .answers ∙ sym answered) (w .leaves ∙ go s st answered (eqb (entryAnswer (found psc) this (numberOf a) (bodyOf a) .code) 0) refl)
+          let first = f .first in
+          let answered : answerTo v this call ≡ entryAnswer (found psc) this (g .seen) (numberOf a) (bodyOf a) = answered-by-rules v this s st call ∙ er s ∙ sym (entry-ruled (found psc) this s st a (g .seen) first) in
+          done-as (r .answer) (r .counts) file′ journal′ (w .answers ∙ sym answered) (w .leaves ∙ go s st first answered (eqb (entryAnswer (found psc) this (g .seen) (numberOf a) (bodyOf a) .code) 0) refl)
         where
-          go : (s : State) (st : Stands v this s) → answerTo v this call ≡ entryAnswer (found psc) this (numberOf a) (bodyOf a) → (t : Bool) → eqb (entryAnswer (found psc) this (numberOf a) (bodyOf a) .code) 0 ≡ t
+          go : (s : State) (st : Stands v this s) → g .seen ≡ firstOf (recordsOf (s .actions)) → answerTo v this call ≡ entryAnswer (found psc) this (g .seen) (numberOf a) (bodyOf a) → (t : Bool) → eqb (entryAnswer (found psc) this (g .seen) (numberOf a) (bodyOf a) .code) 0 ≡ t
               → cond t (entered this (numberOf a) (bodyOf a)) this ≡ after v this call
-          go s st e true q =
-              let zero : ruleBehind v (length file) (length journal) (s .actions) a .code ≡ 0 = ap (λ (x : Answer). x .code) (sym (entry-ruled (found psc) this s st a)) ∙ eqb-true _ 0 q in
+          go s st first e true q =
+              let zero : ruleBehind v (length file) (length journal) (s .actions) a .code ≡ 0 = ap (λ (x : Answer). x .code) (sym (entry-ruled (found psc) this s st a (g .seen) first)) ∙ eqb-true _ 0 q in
               entry-enters (found psc) this s st a zero ∙ ap (made (length file) (length journal)) (sym (en s))
               ∙ sym (accepted-leaves v this s st call (ap (λ (x : Answer). x .code) (er s) ∙ zero))
-          go s st e false q = sym (left-alone (eqb-false _ 0 q) e)
+          go s st first e false q = sym (left-alone (eqb-false _ 0 q) e)
 
 -- ---- open
 opening : (n m : ℕ) → made n m (state []) ≡ batchOf (zeros n) (zeros m) noCounts

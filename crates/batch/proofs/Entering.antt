@@ -10,6 +10,8 @@ use lib.Dec.{eqb, leb}
 use lib.ListN.{length, length-append}
 use Rattle.psc.specs.Table.{Known}
 use Rattle.text.specs.Lists.{overlay}
+use Rattle.ident.specs.declared.consignor.Consignor.{Consignor}
+use Rattle.record.specs.Consignors.{firstOf}
 use Rattle.posting.specs.declared.Totals.{Totals}
 use Rattle.posting.specs.Sums.{totalsOf}
 use Rattle.posting.specs.Records.{linesOf}
@@ -56,7 +58,7 @@ batch-eq : {f f′ j j′ : List ℕ} {t t′ : Totals} {h h′ u u′ : ℕ} �
 batch-eq ef ej et eh eu = λ i. batchOf (ef i) (ej i) (countsOf (et i) (eh i) (eu i))
 
 module _ {known : Known} (n m : ℕ) (xs : List Action) (f : Fits known n m xs) (a : Action) where
-  made-ruled : entryAnswer known (made n m (state xs)) (numberOf a) (bodyOf a) ≡ ruleBehind (posted known) n m xs a
+  made-ruled : entryAnswer known (made n m (state xs)) (firstOf (recordsOf xs)) (numberOf a) (bodyOf a) ≡ ruleBehind (posted known) n m xs a
   unfolding made entryAnswer entryRule
   made-ruled = rw (size-same a, answer-view n (recordsOf xs) (f .sheet) (f .places) a, journal-long n m xs f, length-same a, room-left (length (entriesOf xs)) (Actions.entryLength (kindOf a)) m (f .room))
 
@@ -79,8 +81,8 @@ module _ (known : Known) (b : Batch) (s : State) (st : Stands (posted known) b s
   fits-so : Fits known (fileLength b) (journalLength b) (s .actions)
   fits-so = turns-fit (posted known) (posted-fit known) (fileLength b) (journalLength b) (s .actions) (st .turns)
 
-  pub entry-ruled : entryAnswer known b (numberOf a) (bodyOf a) ≡ ruleBehind (posted known) (fileLength b) (journalLength b) (s .actions) a
-  entry-ruled = ap (λ (x : Batch). entryAnswer known x (numberOf a) (bodyOf a)) (st .is) ∙ made-ruled (fileLength b) (journalLength b) (s .actions) fits-so a
+  pub entry-ruled : (seen : Consignor) → seen ≡ firstOf (recordsOf (s .actions)) → entryAnswer known b seen (numberOf a) (bodyOf a) ≡ ruleBehind (posted known) (fileLength b) (journalLength b) (s .actions) a
+  entry-ruled seen first = (λ i. entryAnswer known (st .is i) (first i) (numberOf a) (bodyOf a)) ∙ made-ruled (fileLength b) (journalLength b) (s .actions) fits-so a
 
   pub entry-enters : ruleBehind (posted known) (fileLength b) (journalLength b) (s .actions) a .code ≡ 0 → entered b (numberOf a) (bodyOf a) ≡ made (fileLength b) (journalLength b) (with s a)
   entry-enters z = ap (λ (x : Batch). entered x (numberOf a) (bodyOf a)) (st .is) ∙ made-entered (fileLength b) (journalLength b) (s .actions) fits-so a z

@@ -18,12 +18,13 @@ use Rattle.text.specs.Answers.{answer, accepted}
 use Rattle.text.specs.Lists.{overlay}
 use Rattle.text.proofs.Lists.{spelled, put-is}
 use Rattle.batch.specs.declared.Counts.{Counts}
+use Rattle.batch.specs.declared.Gate.{Gate}
 use Rattle.batch.specs.declared.test.Finding.{Finding}
 use Rattle.batch.specs.Entries.{head, entry}
 use Rattle.batch.specs.Rules.{Verdict, posted}
 use Rattle.batch.specs.Batch.{Batch, batchOf, rightLengths, fileLength, journalLength, Call, Open, Add, Amend, Cancel, Undo, State, standsIn, Stands, answerTo, answerUnder}
 use Rattle.batch.specs.Test.{Tested}
-use Rattle.batch.specs.Work.{Guarded}
+use Rattle.batch.specs.Work.{refusedAt, Guarded}
 use Rattle.batch.proofs.Standing.{stands-exactly}
 use Rattle.batch.proofs.LentTable.{right-answers, none-met}
 
@@ -62,8 +63,8 @@ none-answer v b good e (Cancel id) other = rw (good, e)
 none-answer v b good e Undo other = rw (good, e)
 
 module _ (psc file journal : List ℕ) (c : Counts) (r : Bool) (e : r ≡ rightLengths (length file) (length journal)) where
-  pub guard-short : not r ≡ true → Guarded psc (batchOf file journal c) (record { answer = answer 235 0; last = 0 })
-  guard-short n = record {
+  pub guard-short : (g : Gate) → not r ≡ true → g ≡ refusedAt (answer 235 0) → Guarded psc (batchOf file journal c) g
+  guard-short g n eg = rw eg record {
     if-so = λ z. absurd (omega (arith, z));
     if-not = λ z. short-answer psc (batchOf file journal c) (sym e ∙ not-true r n);
   }
@@ -73,8 +74,8 @@ module _ (psc file journal : List ℕ) (c : Counts) (r : Bool) (e : r ≡ rightL
     guard-long = sym e ∙ not-false r n
 
     module _ (t : Bool) (et : t ≡ rightTable psc) where
-      pub guard-table : not t ≡ true → Guarded psc (batchOf file journal c) (record { answer = wrongTable; last = 0 })
-      guard-table w = record {
+      pub guard-table : (g : Gate) → not t ≡ true → g ≡ refusedAt wrongTable → Guarded psc (batchOf file journal c) g
+      guard-table g w eg = rw eg record {
         if-so = λ z. absurd (omega (arith, z));
         if-not = λ z. table-answer psc (batchOf file journal c) guard-long (sym et ∙ not-true t w);
       }
@@ -83,17 +84,18 @@ module _ (psc file journal : List ℕ) (c : Counts) (r : Bool) (e : r ≡ rightL
         right : rightTable psc ≡ true
         right = sym et ∙ not-false t w
 
-        pub guard-nothing : not (f .stands) ≡ true → Guarded psc (batchOf file journal c) (record { answer = answer 237 0; last = 0 })
-        guard-nothing x =
+        pub guard-nothing : (g : Gate) → not (f .stands) ≡ true → g ≡ refusedAt (answer 237 0) → Guarded psc (batchOf file journal c) g
+        guard-nothing g x eg =
             let b = batchOf file journal c in
             let never : (s : State) → Stands (posted (holds psc)) b s → ⊥ =
             λ s st. d .if-not (not-true (f .stands) x) s (subst (λ (k : Known). Stands (posted k) b s) (sym (found-is-holds psc right)) st) in
+            rw eg
             record {
               if-so = λ z. absurd (omega (arith, z));
               if-not = λ z call other. right-answers psc b call (none-met psc b call right) ∙ none-answer (posted (holds psc)) b guard-long (nothing-stands (posted (holds psc)) b never) call other;
             }
 
-        pub guard-found : not (f .stands) ≡ false → Guarded psc (batchOf file journal c) (record { answer = accepted; last = f .last })
+        pub guard-found : not (f .stands) ≡ false → Guarded psc (batchOf file journal c) (record { answer = accepted; seen = f .seen; last = f .last })
         guard-found x = record { if-so = λ z. record { right = right; found = d .if-so (not-false (f .stands) x) }; if-not = λ z. absurd (z refl) }
 
 -- ---- writing entries

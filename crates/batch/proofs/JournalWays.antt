@@ -14,7 +14,10 @@ use Rattle.text.specs.Answers.{answer, accepted, orElse}
 use Rattle.text.proofs.Booleans.{clash}
 use Rattle.ident.specs.Identifier.{rightId}
 use Rattle.layout.specs.Layout.{fieldOf}
+use Rattle.ident.specs.declared.consignor.Consignor.{Consignor}
+use Rattle.ident.specs.Consignor.{another}
 use Rattle.record.specs.Rules.{toPost, recordAnswer}
+use Rattle.record.specs.Consignors.{consignorOf}
 use Rattle.batch.specs.Places.{recordNumber, present, placeOf, isCancelledAt, idOf, liveAnswer, addAnswer, amendAnswer, cancelAnswer, withLine, withCancelled, actionAnswer, actionFile, actionHeld}
 use Rattle.batch.specs.Entries.{bodyLength, entryLength, headStands, startsEntry, kindAt}
 use Rattle.batch.specs.Work.{Acceptable}
@@ -36,14 +39,16 @@ live-found file id held h = go (eqb (recordNumber file id held) 0) refl h
     go true e h = absurd (omega (arith, h))
     go false e h = let n = eqb-false (recordNumber file id held) 0 e in omega arith
 
-add-fits : (known : Known) (file rec : List ℕ) (held : ℕ) → addAnswer known file held rec .code ≡ 0 → held * 401 + 401 ≤ length file
+add-fits : (known : Known) (file rec : List ℕ) (held : ℕ) (seen : Consignor) → addAnswer known file held seen rec .code ≡ 0 → held * 401 + 401 ≤ length file
 unfolding addAnswer
-add-fits known file rec held h = go (present file (idOf rec) held) (leb (held * 401 + 401) (length file)) refl (or-both (recordAnswer (toPost known) rec) _ h .1)
+add-fits known file rec held seen h =
+    go (present file (idOf rec) held) (another seen (consignorOf rec)) (leb (held * 401 + 401) (length file)) refl (or-both (recordAnswer (toPost known) rec) _ h .1)
   where
-    go : (p q : Bool) → leb (held * 401 + 401) (length file) ≡ q → cond p (answer 2 1) (cond q accepted (answer 230 0)) .code ≡ 0 → held * 401 + 401 ≤ length file
-    go true q e h = absurd (omega (arith, h))
-    go false true e h = leb-true (held * 401 + 401) (length file) e
-    go false false e h = absurd (omega (arith, h))
+    go : (p w q : Bool) → leb (held * 401 + 401) (length file) ≡ q → cond p (answer 2 1) (cond w (answer 241 1) (cond q accepted (answer 230 0))) .code ≡ 0 → held * 401 + 401 ≤ length file
+    go true w q e h = absurd (omega (arith, h))
+    go false true q e h = absurd (omega (arith, h))
+    go false false true e h = leb-true (held * 401 + 401) (length file) e
+    go false false false e h = absurd (omega (arith, h))
 
 amend-live : (known : Known) (file rec : List ℕ) (held : ℕ) → amendAnswer known file held rec .code ≡ 0 → liveAnswer file held (idOf rec) .code ≡ 0
 unfolding amendAnswer
@@ -62,9 +67,9 @@ module _ (file body : List ℕ) (held kind : ℕ) (pre : Acceptable file held ki
   pub adds-within : kind ≡ 1 → (held ≤ 999) × (held * 401 + 401 ≤ length file) × (length body ≡ 399)
   unfolding actionAnswer
   adds-within k =
-      let e : actionAnswer (pre .known) file held kind body ≡ addAnswer (pre .known) file held body = rw (eq-eqb kind 1 k) in
+      let e : actionAnswer (pre .known) file held (pre .seen) kind body ≡ addAnswer (pre .known) file held (pre .seen) body = rw (eq-eqb kind 1 k) in
       let sized : bodyLength kind ≡ 399 = rw k in
-      (pre .few, add-fits (pre .known) file body held (sym (ap (λ (x : Answer). x .code) e) ∙ pre .accepts), pre .sized ∙ sized)
+      (pre .few, add-fits (pre .known) file body held (pre .seen) (sym (ap (λ (x : Answer). x .code) e) ∙ pre .accepts), pre .sized ∙ sized)
 
   module _ (n : ℕ) (some : 1 ≤ n) (most : n ≤ held) where
     place-within : (n - 1 ≤ 999) × ((n - 1) * 401 + 401 ≤ length file)
@@ -74,7 +79,7 @@ module _ (file body : List ℕ) (held kind : ℕ) (pre : Acceptable file held ki
     pub amends-some : 1 ≤ n
     unfolding actionAnswer
     amends-some =
-        let e : actionAnswer (pre .known) file held kind body ≡ amendAnswer (pre .known) file held body = rw (ne-eqb kind 1 not1, eq-eqb kind 3 k) in
+        let e : actionAnswer (pre .known) file held (pre .seen) kind body ≡ amendAnswer (pre .known) file held body = rw (ne-eqb kind 1 not1, eq-eqb kind 3 k) in
         let live = amend-live (pre .known) file body held (sym (ap (λ (x : Answer). x .code) e) ∙ pre .accepts) in
         rw (en .0, ei) (live-found file (idOf body) held live)
 
@@ -92,7 +97,7 @@ module _ (file body : List ℕ) (held kind : ℕ) (pre : Acceptable file held ki
     pub cancels-some : 1 ≤ n
     unfolding actionAnswer
     cancels-some =
-        let e : actionAnswer (pre .known) file held kind body ≡ cancelAnswer file held body = rw (ne-eqb kind 1 not1, ne-eqb kind 3 not3) in
+        let e : actionAnswer (pre .known) file held (pre .seen) kind body ≡ cancelAnswer file held body = rw (ne-eqb kind 1 not1, ne-eqb kind 3 not3) in
         let live = cancel-live file body held (sym (ap (λ (x : Answer). x .code) e) ∙ pre .accepts) in
         rw (en .0) (live-found file body held live)
 

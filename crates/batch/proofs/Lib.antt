@@ -24,6 +24,7 @@ pub mod BackWays
 pub mod CallsMet
 pub mod CodesInTurn
 pub mod BatchCodes
+pub mod Consignors
 pub mod LentTable
 pub mod OnePlace
 pub mod StandingFile

@@ -18,6 +18,8 @@ use Rattle.posting.specs.Records.{linesOf}
 use Rattle.posting.proofs.PrintedLines.{Long, all-lines-long, lines-last, record-there, id-there, byte-there, line-replaced, bytes-changed}
 use Rattle.batch.specs.Places.{recordNumber, present, placeOf, isCancelledAt, idOf, liveAnswer, addAnswer, amendAnswer, cancelAnswer, withLine, withCancelled, actionAnswer, actionFile}
 use Rattle.record.specs.Readings.{cancelledRec}
+use Rattle.record.specs.Consignors.{firstOf}
+use Rattle.record.proofs.Consignors.{first-suffices}
 use Rattle.batch.specs.Actions.{Action, Addition, Amendment, Cancellation, numberOf, bodyOf}
 use Rattle.batch.specs.Records.{hasId, isCancelledRec, replacedBy, cancelledFor, recordsAfter}
 use Rattle.batch.specs.Rules.{posted, isPresent, isCancelledThere, liveRule, actionRule}
@@ -156,9 +158,9 @@ module _ {known : Known} (n : ℕ) (recs : List (List ℕ)) (s : Sheet known rec
       go true e = rw long (le-leb (length recs * 401 + 401) n (omega (arith, ltb-true (length recs) (n / 401) e)))
       go false e = rw long (lt-leb (length recs * 401 + 401) n (omega (arith, ltb-false (length recs) (n / 401) e)))
 
-  pub answer-view : (a : Action) → actionAnswer known (zeroFilled n (linesOf recs)) (length recs) (numberOf a) (bodyOf a) ≡ actionRule (posted known) recs (n / 401) a
+  pub answer-view : (a : Action) → actionAnswer known (zeroFilled n (linesOf recs)) (length recs) (firstOf recs) (numberOf a) (bodyOf a) ≡ actionRule (posted known) recs (n / 401) a
   unfolding actionAnswer addAnswer amendAnswer cancelAnswer actionRule
-  answer-view (Addition rec) = rw (present-view recs s behind (idOf rec), room-view)
+  answer-view (Addition rec) = rw (present-view recs s behind (idOf rec), ← first-suffices recs rec (s .one), room-view)
   answer-view (Amendment rec) = rw (live-view recs s behind (idOf rec))
   answer-view (Cancellation id) = rw (live-view recs s behind id)
 

@@ -26,6 +26,7 @@ good-records {known} recs s few = record {
   wide = λ i h. s .each i h .long;
   keeps = λ i h. accepted-exactly (inFile known) (getD recs i []) (s .each i h .long) .0 (s .each i h .passes);
   apart = λ i j l h e. let same = s .apart i j (omega arith) h e in omega arith;
+  one = s .one;
 }
 
 made-file : {known : Known} (n m : ℕ) → n ≤ 400599 → (s : State) → Fits known n m (s .actions) → GoodFileOf known (made n m s) (recordsOf (s .actions))
@@ -37,6 +38,7 @@ made-file n m most s f =
       bytes = ap (λ (k : ℕ). zeroFilled k (linesOf recs)) (sym (file-long n m (s .actions) f));
       cut = take-at (linesOf recs) (zeros (n - length (linesOf recs))) (length recs * 401) (lines-long n m (s .actions) f);
       passes = file-passes recs (good-records recs (f .sheet) (omega (arith, f .places)));
+      one = f .sheet .one;
     }
 
 pub standing-file : {known : Known} (v : Verdict) → Fit known v → (b : Batch) (s : State) → Stands v b s → GoodFileOf known b (recordsOf (s .actions))

@@ -11,6 +11,8 @@ use lib.ListN.{length, take, drop, take-append-drop}
 use lib.Seq.{length-take-le}
 use Rattle.psc.specs.Table.{Known}
 use Rattle.text.proofs.Booleans.{clash}
+use Rattle.ident.specs.declared.consignor.Consignor.{Consignor}
+use Rattle.batch.specs.declared.test.Marking.{Marking}
 use Rattle.batch.specs.Actions.{Action, Addition, Amendment, Cancellation, numberOf, bodyOf, sized, entryOf}
 use Rattle.batch.specs.Places.{actionHeld}
 use Rattle.batch.specs.Entries.{bodyLength, kindAt, bodyAt}
@@ -18,37 +20,40 @@ use Rattle.batch.specs.Test.{Noted, Added, Amended, Cancelled, heldAfter
 use Rattle.batch.proofs.Heads.{kind-some, entry-long, kind-here, body-here, EntryHere, entry-here}
 
 -- ---- an entry, by its kind
-module _ (known : Known) (file : List ℕ) (held used kind : ℕ) (body marks table : List ℕ) (r : Bool) where
-  pub entry-added : (marks′ table′ : List ℕ) → kind ≡ 1 → Added known file held used body marks table r marks′ table′ → MarkedEntry known file held used kind body marks table r marks′ table′
-  entry-added marks′ table′ k d = record { judges = go; long = d .long }
+module _ (known : Known) (file : List ℕ) (held : ℕ) (seen : Consignor) (used kind : ℕ) (body marks table : List ℕ) where
+  pub entry-added : (r : Marking) (marks′ table′ : List ℕ) → kind ≡ 1 → Added known file held seen used body marks table r marks′ table′ → MarkedEntry known file held seen used kind body marks table r marks′ table′
+  entry-added r marks′ table′ k d = record { judges = go; long = d .long }
     where
-      go : (a : Action) → numberOf a ≡ kind → bodyOf a ≡ body → Judged known file held used marks a r marks′ table′
+      go : (a : Action) → numberOf a ≡ kind → bodyOf a ≡ body → Judged known file held seen used marks a r marks′ table′
       go (Addition rec) n b =
-          subst (λ (t : List ℕ). Judged known file held used marks (Addition t) r marks′ table′) (sym b)
-          record { if-so = λ q. let x = d .if-so q in record { meets = x .passes; left = x .nowMarks; noted = x .noted }; if-not = d .if-not }
+          subst (λ (t : List ℕ). Judged known file held seen used marks (Addition t) r marks′ table′) (sym b)
+          record { if-so = λ q. let x = d .if-so q in record { meets = x .passes; sees = x .nowSeen; left = x .nowMarks; noted = x .noted }; if-not = d .if-not }
       go (Amendment rec) n b = absurd (omega (arith, n, k))
       go (Cancellation id) n b = absurd (omega (arith, n, k))
 
-  module _ (marks′ : List ℕ) (marking : Noted file held marks table) where
-    pub entry-amended : kind ≡ 3 → Amended known file held used body marks r marks′ → MarkedEntry known file held used kind body marks table r marks′ table
+  module _ (b : Bool) (marks′ : List ℕ) (marking : Noted file held marks table) where
+    abbrev r : Marking
+    r = record { good = b; seen = seen }
+
+    pub entry-amended : kind ≡ 3 → Amended known file held used body marks b marks′ → MarkedEntry known file held seen used kind body marks table (record { good = b; seen = seen }) marks′ table
     entry-amended k d = record { judges = go; long = refl }
       where
-        go : (a : Action) → numberOf a ≡ kind → bodyOf a ≡ body → Judged known file held used marks a r marks′ table
-        go (Addition rec) n b = absurd (omega (arith, n, k))
-        go (Amendment rec) n b =
-            subst (λ (t : List ℕ). Judged known file held used marks (Amendment t) r marks′ table) (sym b)
-            record { if-so = λ q. let x = d .if-so q in record { meets = (x .place, x .passes); left = x .nowMarks; noted = marking .noted }; if-not = λ q p. d .if-not q (p .0) (p .1) }
-        go (Cancellation id) n b = absurd (omega (arith, n, k))
+        go : (a : Action) → numberOf a ≡ kind → bodyOf a ≡ body → Judged known file held seen used marks a r marks′ table
+        go (Addition rec) n eb = absurd (omega (arith, n, k))
+        go (Amendment rec) n eb =
+            subst (λ (t : List ℕ). Judged known file held seen used marks (Amendment t) r marks′ table) (sym eb)
+            record { if-so = λ q. let x = d .if-so q in record { meets = (x .place, x .passes); sees = refl; left = x .nowMarks; noted = marking .noted }; if-not = λ q p. d .if-not q (p .0) (p .1) }
+        go (Cancellation id) n eb = absurd (omega (arith, n, k))
 
-    pub entry-cancelled : (kind ≡ 1 → ⊥) → (kind ≡ 3 → ⊥) → Cancelled file held body marks r marks′ → MarkedEntry known file held used kind body marks table r marks′ table
+    pub entry-cancelled : (kind ≡ 1 → ⊥) → (kind ≡ 3 → ⊥) → Cancelled file held body marks b marks′ → MarkedEntry known file held seen used kind body marks table (record { good = b; seen = seen }) marks′ table
     entry-cancelled k l d = record { judges = go; long = refl }
       where
-        go : (a : Action) → numberOf a ≡ kind → bodyOf a ≡ body → Judged known file held used marks a r marks′ table
-        go (Addition rec) n b = absurd (k (sym n))
-        go (Amendment rec) n b = absurd (l (sym n))
-        go (Cancellation id) n b =
-            subst (λ (t : List ℕ). Judged known file held used marks (Cancellation t) r marks′ table) (sym b)
-            record { if-so = λ q. let x = d .if-so q in record { meets = (x .place, x .passes); left = x .nowMarks; noted = marking .noted }; if-not = λ q p. d .if-not q (p .0) (p .1) }
+        go : (a : Action) → numberOf a ≡ kind → bodyOf a ≡ body → Judged known file held seen used marks a r marks′ table
+        go (Addition rec) n eb = absurd (k (sym n))
+        go (Amendment rec) n eb = absurd (l (sym n))
+        go (Cancellation id) n eb =
+            subst (λ (t : List ℕ). Judged known file held seen used marks (Cancellation t) r marks′ table) (sym eb)
+            record { if-so = λ q. let x = d .if-so q in record { meets = (x .place, x .passes); sees = refl; left = x .nowMarks; noted = marking .noted }; if-not = λ q p. d .if-not q (p .0) (p .1) }
 
 -- ---- an entry that stands in the journal is read
 pub size-of : (a : Action) → sized a ≡ true → length (bodyOf a) ≡ bodyLength (numberOf a)
@@ -89,8 +94,8 @@ sized-so (Amendment rec) e = eq-eqb _ _ e
 sized-so (Cancellation id) e = eq-eqb _ _ e
 
 module _ (file journal : List ℕ) (end held used : ℕ) (marks table : List ℕ) (pre : Stepping file journal end held used marks table) (kind : ℕ) (ek : kind ≡ kindAt journal end used) where
-  pub step-none : (known : Known) → kind ≡ 0 → Stepped known file journal end held used marks table (record { good = false; held = held; used = used; last = used }) marks table
-  step-none known z = record {
+  pub step-none : (known : Known) (seen : Consignor) → kind ≡ 0 → Stepped known file journal end held seen used marks table (record { good = false; held = held; seen = seen; used = used; last = used }) marks table
+  step-none known seen z = record {
     if-so = λ q. absurd (clash q refl);
     if-not = λ q a e p. kind-some a (sym (kind-read journal end used (pre .within) a e) ∙ sym ek ∙ z);
     long = refl;
@@ -109,12 +114,12 @@ module _ (file journal : List ℕ) (end held used : ℕ) (marks table : List ℕ
     pub step-ends : used + 4 + n ≤ length journal
     step-ends = omega (arith, long-is, here .within, pre .within)
 
-    module _ (r : Bool) (marks′ table′ : List ℕ) {known : Known} (m : MarkedEntry known file held used kind (take (used + 4 + n - (used + 4)) (drop (used + 4) journal)) marks table r marks′ table′) where
+    module _ (seen : Consignor) (r : Marking) (marks′ table′ : List ℕ) {known : Known} (m : MarkedEntry known file held seen used kind (take (used + 4 + n - (used + 4)) (drop (used + 4) journal)) marks table r marks′ table′) where
       part-is : (a : Action) → kind ≡ numberOf a → bodyAt journal used (numberOf a) ≡ bodyOf a → bodyOf a ≡ take (used + 4 + n - (used + 4)) (drop (used + 4) journal)
       part-is a k b =
           sym b ∙ ap (λ (w : ℕ). take (bodyLength w) (drop (used + 4) journal)) (sym k) ∙ ap (λ (w : ℕ). take w (drop (used + 4) journal)) (sym (en .0) ∙ sym (add-sub-cancel-left (used + 4) n))
 
-      pub step-judged : (h : ℕ) → h ≡ actionHeld held kind → Stepped known file journal end held used marks table (record { good = r; held = h; used = used + 4 + n; last = used }) marks′ table′
+      pub step-judged : (h : ℕ) → h ≡ actionHeld held kind → Stepped known file journal end held seen used marks table (record { good = r .good; held = h; seen = r .seen; used = used + 4 + n; last = used }) marks′ table′
       step-judged h eh =
           record {
             if-so = λ q. record {

@@ -25,6 +25,11 @@ use Rattle.index.specs.Index.{keyAt, seek, found, Put}
 use Rattle.index.specs.Laws.{Indexed}
 use Rattle.index.proofs.Keys.{key-of-record}
 use Rattle.index.proofs.Slots.{seek-small, indexed-more, length-noting}
+use Rattle.ident.specs.declared.consignor.Consignor.{Consignor}
+use Rattle.ident.specs.Consignor.{another, orNamed}
+use Rattle.record.specs.declared.RecordCheck.{RecordCheck}
+use Rattle.record.specs.Consignors.{consignorOf, withConsignor}
+use Rattle.batch.specs.declared.test.Marking.{Marking}
 use Rattle.batch.specs.declared.test.Place.{Place}
 use Rattle.batch.specs.declared.test.Place.the-variants.{At, Nowhere}
 use Rattle.batch.proofs.test.Place as Places
@@ -85,22 +90,30 @@ module _ (file : List ℕ) (held : ℕ) (marks table id : List ℕ) (t : ℕ) (p
   live-there n o = sym (live-at (t - 1) (some-found n) ∙ rw (ne-eqb (getD marks (t - 1) 0 % 2) 1 o))
 
 -- ---- an addition
-module _ (known : Known) (file : List ℕ) (held used : ℕ) (rec marks table : List ℕ) where
-  not-added : (table′ : List ℕ) → length table′ ≡ length table → (Adds known file held rec → ⊥) → Added known file held used rec marks table false marks table′
-  not-added table′ long never = record { if-so = λ e. absurd (clash e refl); if-not = λ e. never; long = long }
+module _ (known : Known) (file : List ℕ) (held : ℕ) (seen : Consignor) (used : ℕ) (rec marks table : List ℕ) where
+  not-added : (r : Marking) (table′ : List ℕ) → r .good ≡ false → length table′ ≡ length table → (Adds known file held seen rec → ⊥) → Added known file held seen used rec marks table r marks table′
+  not-added r table′ e long never = record { if-so = λ q. absurd (clash q e); if-not = λ q. never; long = long }
 
-  pub added-short : length file - held * 401 < 401 → Added known file held used rec marks table false marks table
-  added-short h = not-added table refl (λ p. omega (arith, h, p .room))
+  pub added-short : (r : Marking) → r .good ≡ false → length file - held * 401 < 401 → Added known file held seen used rec marks table r marks table
+  added-short r f h = not-added r table f refl (λ p. omega (arith, h, p .room))
 
-  pub added-refused : (a : Answer) → a ≡ posted known rec → (a .code ≡ 0 → ⊥) → Added known file held used rec marks table false marks table
-  added-refused a e z = not-added table refl (λ p. z (ap (λ (x : Answer). x .code) e ∙ p .good))
+  module _ (k : RecordCheck) (ek : k ≡ withConsignor (posted known rec) rec) where
+    pub added-refused : (r : Marking) → r .good ≡ false → (k .answer .code ≡ 0 → ⊥) → Added known file held seen used rec marks table r marks table
+    added-refused r f z = not-added r table f refl (λ p. z (ap (λ (x : RecordCheck). x .answer .code) ek ∙ p .good))
+
+    module _ (w : Bool) (ew : w ≡ another seen (k .consignor)) where
+      other : another seen (consignorOf rec) ≡ w
+      other = ap (λ (x : RecordCheck). another seen (x .consignor)) (sym ek) ∙ sym ew
+
+      pub added-strays : (r : Marking) → r .good ≡ false → w ≡ true → Added known file held seen used rec marks table r marks table
+      added-strays r f t = not-added r table f refl (λ p. clash (other ∙ t) (p .same))
 
   module _ (id : List ℕ) (its : id ≡ fieldOf rec 1) (same : Bool) (es : same ≡ sameBytes (take (held * 401 + 13 - held * 401) (drop (held * 401) file)) id) where
     own-key : same ≡ sameBytes (keyAt file 0 held) (idOf rec)
     own-key = es ∙ rw (its, add-sub-cancel-left, add-zero (held * 401))
 
-    pub added-other : not same ≡ true → Added known file held used rec marks table false marks table
-    added-other n = not-added table refl (λ p. clash (own-key ∙ same-exactly _ _ .1 (p .own)) (not-true same n))
+    pub added-other : (r : Marking) → r .good ≡ false → not same ≡ true → Added known file held seen used rec marks table r marks table
+    added-other r f n = not-added r table f refl (λ p. clash (own-key ∙ same-exactly _ _ .1 (p .own)) (not-true same n))
 
     module _ (n : not same ≡ false) (marking : Noted file held marks table) (t : ℕ) (table′ : List ℕ) (put : Put table file 0 held t table′) where
       own-here : keyAt file 0 held ≡ idOf rec
@@ -112,15 +125,17 @@ module _ (known : Known) (file : List ℕ) (held used : ℕ) (rec marks table : 
       long-still : length table′ ≡ length table
       long-still = ap length (put .notes) ∙ length-noting table file 0 held
 
-      pub added-twice : (t ≡ 0 → ⊥) → Added known file held used rec marks table false marks table′
-      added-twice z = not-added table′ long-still (λ p. z (before-is ∙ p .new))
+      pub added-twice : (r : Marking) → r .good ≡ false → (t ≡ 0 → ⊥) → Added known file held seen used rec marks table r marks table′
+      added-twice r f z = not-added r table′ f long-still (λ p. z (before-is ∙ p .new))
 
-      pub added-now : 401 ≤ length file - held * 401 → (a : Answer) → a ≡ posted known rec → a .code ≡ 0 → t ≡ 0 → Added known file held used rec marks table true (set marks held (used * 2)) table′
-      added-now h a e z u =
+      pub added-now : 401 ≤ length file - held * 401 → (k : RecordCheck) → k ≡ withConsignor (posted known rec) rec → k .answer .code ≡ 0 → (w : Bool) → w ≡ another seen (k .consignor) → w ≡ false → t ≡ 0
+          → (n : Consignor) → n ≡ orNamed seen (k .consignor) → Added known file held seen used rec marks table (record { good = true; seen = n }) (set marks held (used * 2)) table′
+      added-now h k ek z w ew f u n en =
           let room : held * 401 + 401 ≤ length file = omega (arith, h) in
           record {
             if-so = λ q. record {
-              passes = record { room = room; good = ap (λ (x : Answer). x .code) (sym e) ∙ z; own = own-here; new = sym before-is ∙ u };
+              passes = record { room = room; good = ap (λ (x : RecordCheck). x .answer .code) (sym ek) ∙ z; same = other k ek w ew ∙ f; own = own-here; new = sym before-is ∙ u };
+              nowSeen = en ∙ ap (λ (x : RecordCheck). orNamed seen (x .consignor)) ek;
               nowMarks = refl;
               noted = subst (Indexed file 0 (held + 1)) (sym (put .notes)) (indexed-more file 0 held table (marking .noted) (omega (arith, room, marking .room)) (omega (arith, marking .few)) (key-of-record file 0 held (omega arith) room));
             };
@@ -130,15 +145,15 @@ module _ (known : Known) (file : List ℕ) (held used : ℕ) (rec marks table : 
 
 -- ---- an amendment, and a cancellation
 module _ (known : Known) (file : List ℕ) (held used : ℕ) (rec marks : List ℕ) where
-  pub amended-refused : (a : Answer) → a ≡ posted known rec → (a .code ≡ 0 → ⊥) → Amended known file held used rec marks false marks
-  amended-refused a e z = record { if-so = λ q. absurd (clash q refl); if-not = λ q k p. z (ap (λ (x : Answer). x .code) e ∙ p .good) }
+  pub amended-refused : (k : RecordCheck) → k ≡ withConsignor (posted known rec) rec → (k .answer .code ≡ 0 → ⊥) → Amended known file held used rec marks false marks
+  amended-refused k e z = record { if-so = λ q. absurd (clash q refl); if-not = λ q j p. z (ap (λ (x : RecordCheck). x .answer .code) e ∙ p .good) }
 
   pub amended-nowhere : (id : List ℕ) (w : Place) → id ≡ fieldOf rec 1 → w ≡ liveIn file held marks id → OneOf (1 ∷ []) (tagOf Places.the-type w) → Amended known file held used rec marks false marks
   amended-nowhere id w i e t = record { if-so = λ q. absurd (clash q refl); if-not = λ q k p. nowhere-at k (sym (is-nowhere w t) ∙ e ∙ ap (liveIn file held marks) i ∙ p .there) }
 
-  pub amended-now : (id : List ℕ) (w : Place) (a : Answer) (k : ℕ) → id ≡ fieldOf rec 1 → a ≡ posted known rec → a .code ≡ 0 → w ≡ liveIn file held marks id → w ≡ At k → Amended known file held used rec marks true (set marks k (used * 2))
+  pub amended-now : (id : List ℕ) (w : Place) (a : RecordCheck) (k : ℕ) → id ≡ fieldOf rec 1 → a ≡ withConsignor (posted known rec) rec → a .answer .code ≡ 0 → w ≡ liveIn file held marks id → w ≡ At k → Amended known file held used rec marks true (set marks k (used * 2))
   amended-now id w a k i e z l h = record {
-    if-so = λ q. record { place = k; passes = record { good = ap (λ (x : Answer). x .code) (sym e) ∙ z; there = sym (ap (liveIn file held marks) i) ∙ sym l ∙ h }; nowMarks = refl };
+    if-so = λ q. record { place = k; passes = record { good = ap (λ (x : RecordCheck). x .answer .code) (sym e) ∙ z; there = sym (ap (liveIn file held marks) i) ∙ sym l ∙ h }; nowMarks = refl };
     if-not = λ q. absurd (clash refl q);
   }
 

@@ -52,18 +52,18 @@ module _ (file journal : List ℕ) (c : Counts) (marks table : List ℕ) (pre : 
     test-stuck f e n = none-stands b f e (λ s st. wt .if-not (not-true (r .good) n) c refl s st)
 
     module _ (walked : not (r .good) ≡ false) where
-      there : Walked known file journal (r .held) (c .used) (r .last) marks′ table′
+      there : Walked known file journal (r .held) (r .seen) (c .used) (r .last) marks′ table′
       there = wt .if-so (not-false (r .good) walked)
 
       pub test-held : (f : Finding) → f .stands ≡ false → (r .held ≡ c .held → ⊥) → Tested known b f
-      test-held f e n = none-stands b f e (held-wrong file journal c (r .held) (r .last) marks′ table′ (pre .lengths) there n)
+      test-held f e n = none-stands b f e (held-wrong file journal c (r .held) (r .seen) (r .last) marks′ table′ (pre .lengths) there n)
 
       module _ (same : r .held ≡ c .held) where
-        w : Walked known file journal (c .held) (c .used) (r .last) marks′ table′
-        w = subst (λ (h : ℕ). Walked known file journal h (c .used) (r .last) marks′ table′) same there
+        w : Walked known file journal (c .held) (r .seen) (c .used) (r .last) marks′ table′
+        w = subst (λ (h : ℕ). Walked known file journal h (r .seen) (c .used) (r .last) marks′ table′) same there
 
         pub test-marked : Marked file journal (c .held) marks′
-        test-marked = marked-so file journal c (c .held) (r .last) marks′ table′ (pre .lengths) w (bounds .1)
+        test-marked = marked-so file journal c (c .held) (r .seen) (r .last) marks′ table′ (pre .lengths) w (bounds .1)
 
         pub held-fits : Fits w64 (c .held * 401)
         held-fits = record { fits = omega (arith, w .marking .few) }
@@ -76,27 +76,27 @@ module _ (file journal : List ℕ) (c : Counts) (marks table : List ℕ) (pre : 
 
         module _ (ls : Bool) (l : LinesSame file journal (c .held) marks′ ls) where
           pub test-lines : (f : Finding) → f .stands ≡ false → not ls ≡ true → Tested known b f
-          test-lines f e n = none-stands b f e (lines-wrong file journal c (c .held) (r .last) marks′ table′ (pre .lengths) w (l .if-not (not-true ls n)))
+          test-lines f e n = none-stands b f e (lines-wrong file journal c (c .held) (r .seen) (r .last) marks′ table′ (pre .lengths) w (l .if-not (not-true ls n)))
 
           module _ (alike : not ls ≡ false) (z : Bool) (ez : z ≡ every isZero (take (length file - c .held * 401) (drop (c .held * 401) file))) where
             rest-is : every isZero (drop (c .held * 401) file) ≡ z
             rest-is = ap (every isZero) (sym (take-all (length file - c .held * 401) (drop (c .held * 401) file) (omega (arith, length-drop (c .held * 401) file)))) ∙ sym ez
 
             pub test-rest : (f : Finding) → f .stands ≡ false → not z ≡ true → Tested known b f
-            test-rest f e n = none-stands b f e (rest-wrong file journal c (c .held) (r .last) marks′ table′ (pre .lengths) w (rest-is ∙ not-true z n))
+            test-rest f e n = none-stands b f e (rest-wrong file journal c (c .held) (r .seen) (r .last) marks′ table′ (pre .lengths) w (rest-is ∙ not-true z n))
 
             module _ (clear : not z ≡ false) (y : Bool) (ey : y ≡ every isZero (take (length journal - c .used) (drop (c .used) journal))) where
               behind-is : every isZero (drop (c .used) journal) ≡ y
               behind-is = ap (every isZero) (sym (take-all (length journal - c .used) (drop (c .used) journal) (omega (arith, length-drop (c .used) journal)))) ∙ sym ey
 
               pub test-behind : (f : Finding) → f .stands ≡ false → not y ≡ true → Tested known b f
-              test-behind f e n = none-stands b f e (journal-wrong file journal c (c .held) (r .last) marks′ table′ (pre .lengths) w (behind-is ∙ not-true y n))
+              test-behind f e n = none-stands b f e (journal-wrong file journal c (c .held) (r .seen) (r .last) marks′ table′ (pre .lengths) w (behind-is ∙ not-true y n))
 
-              pub test-told : not y ≡ false → c .used ≤ length journal → (t : Totals) → t ≡ totalsOver file (c .held) → (s : Bool) → s ≡ sameTotals t (c .totals) → Tested known b (record { stands = s; last = r .last })
+              pub test-told : not y ≡ false → c .used ≤ length journal → (t : Totals) → t ≡ totalsOver file (c .held) → (s : Bool) → s ≡ sameTotals t (c .totals) → Tested known b (record { stands = s; seen = r .seen; last = r .last })
               test-told n within t et s es = record {
-                if-so = λ q. test-passes file journal c (c .held) (r .last) marks′ table′ (pre .lengths) w refl (l .if-so (not-false ls alike)) (rest-is ∙ not-false z clear) (behind-is ∙ not-false y n) within
+                if-so = λ q. test-passes file journal c (c .held) (r .seen) (r .last) marks′ table′ (pre .lengths) w refl (l .if-so (not-false ls alike)) (rest-is ∙ not-false z clear) (behind-is ∙ not-false y n) within
                     (sym et ∙ totals-same t (c .totals) (sym es ∙ q));
-                if-not = λ q. totals-wrong file journal c (c .held) (r .last) marks′ table′ (pre .lengths) w refl (l .if-so (not-false ls alike)) (rest-is ∙ not-false z clear) (behind-is ∙ not-false y n) within
+                if-not = λ q. totals-wrong file journal c (c .held) (r .seen) (r .last) marks′ table′ (pre .lengths) w refl (l .if-so (not-false ls alike)) (rest-is ∙ not-false z clear) (behind-is ∙ not-false y n) within
                     (λ e. clash (es ∙ totals-alike t (c .totals) (et ∙ e)) q);
               }
 

@@ -19,6 +19,7 @@ use Rattle.posting.specs.File.{lineOf, totalsOver}
 use Rattle.posting.specs.Sums.{totalsOf}
 use Rattle.posting.specs.Records.{linesOf}
 use Rattle.posting.proofs.PrintedLines.{Long, all-lines-long}
+use Rattle.ident.specs.declared.consignor.Consignor.{Consignor}
 use Rattle.batch.specs.declared.Counts.{Counts}
 use Rattle.batch.specs.Actions.{Action, entriesOf}
 use Rattle.batch.specs.Records.{recordsOf}
@@ -75,8 +76,8 @@ unfolding every
 zeros-pass zero = refl
 zeros-pass (suc k) = zeros-pass k
 
-module _ {known : Known} (file journal : List ℕ) (c : Counts) (held last : ℕ) (marks table : List ℕ) (good : rightLengths (length file) (length journal) ≡ true)
-    (w : Walked known file journal held (c .used) last marks table) where
+module _ {known : Known} (file journal : List ℕ) (c : Counts) (held : ℕ) (seen : Consignor) (last : ℕ) (marks table : List ℕ) (good : rightLengths (length file) (length journal) ≡ true)
+    (w : Walked known file journal held seen (c .used) last marks table) where
   abbrev b : Batch
   b = batchOf file journal c
 
@@ -173,7 +174,7 @@ module _ {known : Known} (file journal : List ℕ) (c : Counts) (held last : ℕ
     totals-are : totalsOver file (c .held) ≡ totalsOf recs
     totals-are = (λ i. totalsOver (file-is i) ((sym same-held ∙ sym (w .many)) i)) ∙ totals-view n recs (fits-so .sheet)
 
-    pub test-passes : totalsOver file (c .held) ≡ c .totals → Found known b last
+    pub test-passes : totalsOver file (c .held) ≡ c .totals → Found known b seen last
     unfolding made
     test-passes t = record {
       what = state (w .acts);
@@ -182,6 +183,7 @@ module _ {known : Known} (file journal : List ℕ) (c : Counts) (held last : ℕ
         turns = w .turns;
         is = λ i. batchOf (file-is i) (journal-is i) (countsOf ((sym t ∙ totals-are) i) ((sym same-held ∙ sym (w .many)) i) (used-is i));
       };
+      first = w .first;
       latest = w .latest;
     }
 

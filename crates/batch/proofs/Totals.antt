@@ -124,4 +124,5 @@ good-records {known} recs s few = record {
   wide = long-of recs s;
   keeps = λ i h. accepted-exactly (inFile known) (getD recs i []) (s .each i h .long) .0 (s .each i h .passes);
   apart = λ i j l h e. let same = s .apart i j (omega arith) h e in omega arith;
+  one = s .one;
 }

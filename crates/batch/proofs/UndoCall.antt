@@ -35,7 +35,7 @@ module _ (psc file journal : List ℕ) (c : Counts) (g : Gate) (eg : Guarded psc
   abbrev this : Batch
   this = batchOf file journal c
 
-  here : Found (found psc) this (g .last)
+  here : Found (found psc) this (g .seen) (g .last)
   here = eg .if-so z .found
 
   abbrev acts : List Action
@@ -57,7 +57,7 @@ module _ (psc file journal : List ℕ) (c : Counts) (g : Gate) (eg : Guarded psc
 
   module _ (n : c .used ≡ 0 → ⊥) where
     pub undo-ready : Undoable file journal c (g .last)
-    undo-ready = record { known = found psc; found = here; some = n }
+    undo-ready = record { known = found psc; seen = g .seen; found = here; some = n }
 
     split-so : (l : Action) × (withoutLatest acts ++ l ∷ [] ≡ acts)
     split-so = go acts used-is

@@ -3,7 +3,7 @@
 use Prim.Native.Nat.{ℕ, zero, suc, _+_, _-_, _*_, _/_, _%_, _≤_, _<_}
 use mathlib.Core.Path.{_≡_, refl, sym, ap, _∙_, subst}
 use mathlib.Core.Bool.{Bool, true, false, cond, and-eq-true-iff}
-use mathlib.Core.List.{List, [], _∷_, _++_, append-assoc, append-nil}
+use mathlib.Core.List.{List, [], _∷_, _++_, map, append-assoc, append-nil}
 use native.Mathlib.Nat.{add-zero}
 use native.Mathlib.Omega.{arith}
 use borrow.Author.Tests.{eq-eqb, ne-eqb, eqb-true, eqb-false, lt-ltb, ltb-true, ltb-false, le-leb}
@@ -16,8 +16,12 @@ use Rattle.text.specs.Lists.{sameBytes}
 use Rattle.text.proofs.Booleans.{clash}
 use Rattle.text.proofs.Lists.{same-exactly}
 use Rattle.ident.specs.Identifier.{rightId}
+use Rattle.ident.specs.declared.consignor.Consignor.{Consignor}
+use Rattle.ident.specs.Consignor.{consignorIn, another, firstNamed}
 use Rattle.index.specs.Index.{keyAt, seek}
 use Rattle.record.specs.Readings.{cancelledRec}
+use Rattle.record.specs.Consignors.{consignorOf, consignorsOf, strays, firstOf}
+use Rattle.record.proofs.Consignors.{first-suffices, first-more}
 use Rattle.record.proofs.Status.{cancelled-rec-others, cancelled-rec-status}
 use Rattle.batch.specs.declared.Counts.{Counts}
 use Rattle.batch.specs.declared.test.Place.the-variants.{At, Nowhere}
@@ -26,10 +30,11 @@ use Rattle.batch.specs.Actions.{Action, Addition, Amendment, Cancellatio
 use Rattle.batch.specs.Records.{idOf, hasId, isCancelledRec, replacedBy, cancelledFor, recordsAfter, recordsFrom, recordsOf}
 use Rattle.batch.specs.Rules.{Verdict, posted, isPresent, isCancelledThere, liveRule, actionRule, entryRule, ruleBehind, inTurnBehind, inTurn}
 use Rattle.posting.specs.Records.{linesOf}
+use Rattle.batch.specs.History.{isAddition}
 use Rattle.batch.specs.Batch.{Batch, batchOf, State, zeros, zeroFilled, made, withoutLatest, Stands}
 use Rattle.posting.proofs.PrintedLines.{id-there}
 use Rattle.batch.proofs.Standing.{turns-sized}
-use Rattle.batch.specs.Test.{odd, recordFrom, markedRecord, liveFrom, liveIn, Meets, marksAfter, heldAfter, Taken, EntryAt, Walked}
+use Rattle.batch.specs.Test.{odd, recordFrom, markedRecord, liveFrom, liveIn, Meets, marksAfter, heldAfter, seenAfter, Taken, EntryAt, Walked}
 use Rattle.batch.proofs.Rows.{length-last, PlaceIn, earlier, last, place-in, length-map, map-nth, none-at, none-passes}
 use Rattle.batch.proofs.Sheets.{adds, amends, cancels}
 use Rattle.batch.proofs.PlaceLaws.{cancelled-there, is-present, changed-there}
@@ -81,6 +86,24 @@ length-after : (recs : List (List ℕ)) (a : Action) → length (recordsAfter re
 length-after recs (Addition rec) = length-last recs rec
 length-after recs (Amendment rec) = length-map (replacedBy rec) recs
 length-after recs (Cancellation id) = length-map (cancelledFor id) recs
+
+-- and so its consignor: an amendment and a cancellation change none, and the first that is named changes by an addition alone
+consignors-kept : (xs ys : List (List ℕ)) → length xs ≡ length ys → ((i : ℕ) → i < length ys → idOf (getD xs i []) ≡ idOf (getD ys i [])) → consignorsOf xs ≡ consignorsOf ys
+consignors-kept [] [] e same = refl
+consignors-kept [] (y ∷ ys) e same = absurd (omega (arith, e))
+consignors-kept (x ∷ xs) [] e same = absurd (omega (arith, e))
+consignors-kept (x ∷ xs) (y ∷ ys) e same =
+    (λ i. consignorIn (same 0 (omega arith) i) ∷ consignors-kept xs ys (omega (arith, e)) (λ k h. same (suc k) (omega (arith, h))) i)
+
+pub consignors-stay : (recs : List (List ℕ)) (a : Action) → isAddition a ≡ false → consignorsOf (recordsAfter recs a) ≡ consignorsOf recs
+consignors-stay recs (Addition rec) n = absurd (clash refl n)
+consignors-stay recs (Amendment rec) n = consignors-kept (map (replacedBy rec) recs) recs (length-map (replacedBy rec) recs) (λ i h. ids-after recs (Amendment rec) i h)
+consignors-stay recs (Cancellation id) n = consignors-kept (map (cancelledFor id) recs) recs (length-map (cancelledFor id) recs) (λ i h. ids-after recs (Cancellation id) i h)
+
+first-after : (recs : List (List ℕ)) (a : Action) → firstOf (recordsAfter recs a) ≡ seenAfter (firstOf recs) a
+first-after recs (Addition rec) = first-more recs rec
+first-after recs (Amendment rec) = ap firstNamed (consignors-stay recs (Amendment rec) refl)
+first-after recs (Cancellation id) = ap firstNamed (consignors-stay recs (Cancellation id) refl)
 
 not-fewer : (held : ℕ) (a : Action) → held ≤ heldAfter held a
 not-fewer held (Addition rec) = omega arith
@@ -187,7 +210,7 @@ without-latest (x ∷ []) a = refl
 without-latest (x ∷ y ∷ xs) a = ap (λ (t : List Action). x ∷ t) (without-latest (y ∷ xs) a)
 
 -- ---- the walk so far
-module _ {known : Known} (file journal : List ℕ) (held used last : ℕ) (marks table : List ℕ) (w : Walked known file journal held used last marks table) where
+module _ {known : Known} (file journal : List ℕ) (held : ℕ) (seen : Consignor) (used last : ℕ) (marks table : List ℕ) (w : Walked known file journal held seen used last marks table) where
   abbrev n : ℕ
   n = length file
 
@@ -266,15 +289,19 @@ module _ {known : Known} (file journal : List ℕ) (held used last : ℕ) (marks
     room-so : entryLength (kindOf a) ≤ m - length (entriesOf (w .acts))
     room-so = omega (arith, e .within, entry-long a (e .size), used-is (omega (arith, before, within)))
 
-    meets-rule : (b : Action) → Meets known file held marks b → actionRule (posted known) recs (n / 401) b .code ≡ 0
+    -- the first consignor named suffices
+    no-other-named : (rec : List ℕ) → another seen (consignorOf rec) ≡ false → strays recs rec ≡ false
+    no-other-named rec q = first-suffices recs rec (fit-so .sheet .one) ∙ ap (λ (c : Consignor). another c (consignorOf rec)) (sym (w .first)) ∙ q
+
+    meets-rule : (b : Action) → Meets known file held seen marks b → actionRule (posted known) recs (n / 401) b .code ≡ 0
     unfolding actionRule orElse
     meets-rule (Addition rec) p =
         let few : length recs < n / 401 = omega (arith, p .room, w .many) in
-        rw (eq-eqb (posted known rec .code) 0 (p .good), absent-if (idOf rec) (p .new), lt-ltb (length recs) (n / 401) few)
+        rw (eq-eqb (posted known rec .code) 0 (p .good), absent-if (idOf rec) (p .new), no-other-named rec (p .same), lt-ltb (length recs) (n / 401) few)
     meets-rule (Amendment rec) p = rw (eq-eqb (posted known rec .code) 0 (p .1 .good), live-rules (idOf rec) (p .0) (p .1 .there))
     meets-rule (Cancellation id) p = rw (p .1 .right, live-rules id (p .0) (p .1 .there))
 
-    pub acceptable : Meets known file held marks a → ruleBehind (posted known) n m (w .acts) a .code ≡ 0
+    pub acceptable : Meets known file held seen marks a → ruleBehind (posted known) n m (w .acts) a .code ≡ 0
     unfolding entryRule orElse
     acceptable p = rw (e .size, eq-eqb (actionRule (posted known) recs (n / 401) a .code) 0 (meets-rule a p), le-leb (entryLength (kindOf a)) (m - length (entriesOf (w .acts))) room-so)
 
@@ -288,8 +315,8 @@ module _ {known : Known} (file journal : List ℕ) (held used last : ℕ) (marks
     mark-there : (k : ℕ) → k < held → k < length marks
     mark-there k h = omega (arith, h, w .marking .marked, w .marking .places)
 
-    rights : (b : Action) → EntryAt journal end used b → (p : Meets known file held marks b) → (i : ℕ) → i < heldAfter held b
-        → Right file journal (recordsAfter recs b) (marksAfter known file held used marks b p) i
+    rights : (b : Action) → EntryAt journal end used b → (p : Meets known file held seen marks b) → (i : ℕ) → i < heldAfter held b
+        → Right file journal (recordsAfter recs b) (marksAfter known file held seen used marks b p) i
     rights (Addition rec) x p i h =
         subst (λ (t : ℕ). Right file journal (recs ++ rec ∷ []) (set marks t (used * 2)) i) (w .many)
         (right-last file journal recs marks rec (used * 2) (omega (arith, p .room, w .many, w .marking .marked))
@@ -315,7 +342,7 @@ module _ {known : Known} (file journal : List ℕ) (held used last : ℕ) (marks
         (is-struck old (fit-so .sheet .each (p .0) (at .sits) .long) ∙ sym (odd-mark mark (both .1)))
         (cancelled-rec-others old 1 (λ q. omega (arith, q))) i (right-at i h))
 
-    marks-long : (b : Action) (p : Meets known file held marks b) → length (marksAfter known file held used marks b p) ≡ length marks
+    marks-long : (b : Action) (p : Meets known file held seen marks b) → length (marksAfter known file held seen used marks b p) ≡ length marks
     marks-long (Addition rec) p = length-set marks held (used * 2)
     marks-long (Amendment rec) p = length-set marks (p .0) (used * 2)
     marks-long (Cancellation id) p = length-set marks (p .0) (getD marks (p .0) 0 + 1)
@@ -334,16 +361,16 @@ module _ {known : Known} (file journal : List ℕ) (held used last : ℕ) (marks
         go true q = subst (λ (j : ℕ). getD (set marks k mark) j 0 / 2 ≤ 1048576) (sym (eqb-true i k q)) (set-small k mark h)
         go false q = rw (getD-set-other marks k i mark 0 (eqb-false i k q)) (w .marking .small i)
 
-    small-after : (b : Action) (p : Meets known file held marks b) → used ≤ 1048576 → (i : ℕ) → getD (marksAfter known file held used marks b p) i 0 / 2 ≤ 1048576
+    small-after : (b : Action) (p : Meets known file held seen marks b) → used ≤ 1048576 → (i : ℕ) → getD (marksAfter known file held seen used marks b p) i 0 / 2 ≤ 1048576
     small-after (Addition rec) p u i = small-set held (used * 2) (omega (arith, u)) i
     small-after (Amendment rec) p u i = small-set (p .0) (used * 2) (omega (arith, u)) i
     small-after (Cancellation id) p u i =
         let even = live-here id (p .0) (p .1 .there) .1 in
         small-set (p .0) (getD marks (p .0) 0 + 1) (subst (λ (h : ℕ). h ≤ 1048576) (sym (same-half (getD marks (p .0) 0) even)) (w .marking .small (p .0))) i
 
-    pub walk-on : length journal ≤ 1048576 → (marks′ table′ : List ℕ) → length table′ ≡ length table → Taken known file held used marks a marks′ table′
-        → Walked known file journal (heldAfter held a) (used + length (entryOf a)) used marks′ table′
-    walk-on bounded marks′ table′ long t =
+    pub walk-on : length journal ≤ 1048576 → (seen′ : Consignor) (marks′ table′ : List ℕ) → length table′ ≡ length table → Taken known file held seen used marks a seen′ marks′ table′
+        → Walked known file journal (heldAfter held a) seen′ (used + length (entryOf a)) used marks′ table′
+    walk-on bounded seen′ marks′ table′ long t =
         let p = t .meets in
         let after : recordsOf (w .acts ++ a ∷ []) ≡ recordsAfter recs a = records-last [] (w .acts) a in
         let right : (i : ℕ) → i < heldAfter held a → Right file journal (recordsOf (w .acts ++ a ∷ [])) marks′ i =
@@ -356,6 +383,7 @@ module _ {known : Known} (file journal : List ℕ) (held used last : ℕ) (marks
           front = take-add used (length (entryOf a)) journal ∙ (λ i. w .front i ++ e .bytes i) ∙ sym (entries-last (w .acts) a);
           turns = turns;
           many = many;
+          first = t .sees ∙ ap (λ (c : Consignor). seenAfter c a) (w .first) ∙ sym (first-after recs a) ∙ ap firstOf (sym after);
           named = λ i h. right i h .named;
           struck = λ i h. right i h .struck;
           ids = λ i h. right i h .own;
@@ -436,7 +464,7 @@ pub made-file : {v : Verdict} (file journal : List ℕ) (c : Counts) (s : State)
 unfolding made
 made-file file journal c s st = ap (λ (x : Batch). x .file) (st .is)
 
-module _ {known : Known} (file journal : List ℕ) (held used last end : ℕ) (marks table : List ℕ) (w : Walked known file journal held used last marks table) (before : used < end) (within : end ≤ length journal)
+module _ {known : Known} (file journal : List ℕ) (held : ℕ) (seen : Consignor) (used last end : ℕ) (marks table : List ℕ) (w : Walked known file journal held seen used last marks table) (before : used < end) (within : end ≤ length journal)
     (c : Counts) (ec : c .used ≡ end) (s : State) (st : Stands (posted known) (batchOf file journal c) s) where
   abbrev all-acts : List Action
   all-acts = s .actions
@@ -467,11 +495,11 @@ module _ {known : Known} (file journal : List ℕ) (held used last end : ℕ) (m
           within = omega (arith, tail-long, ap length bytes, length-append (entryOf a) (entriesOf ys), before);
         }
 
-    accepted-there : Accepted (posted known) (recs file journal held used last marks table w) (length file / 401) (length journal - length (entriesOf (w .acts))) a
+    accepted-there : Accepted (posted known) (recs file journal held seen used last marks table w) (length file / 401) (length journal - length (entriesOf (w .acts))) a
     accepted-there = accepted-if (posted known) _ _ _ a (turn-at (posted known) (length file) (length journal) [] (w .acts) a ys (subst (λ (zs : List Action). inTurn (posted known) (length file) (length journal) zs ≡ true) is (st .turns)))
 
     abbrev now : List (List ℕ)
-    now = recs file journal held used last marks table w
+    now = recs file journal held seen used last marks table w
 
     -- the lent file has the identifier of an addition at its place
     own-there : (rec : List ℕ) → a ≡ Addition rec → keyAt file 0 held ≡ idOf rec
@@ -496,20 +524,26 @@ module _ {known : Known} (file journal : List ℕ) (held used last end : ℕ) (m
         go (nowhere e off) = e
         go (there k e h q) = absurd (none-at (hasId id) now k none (omega (arith, h, w .many)) (same-exactly _ _ .1 (sym (w .ids k h) ∙ q)))
 
-    meets-there : (b : Action) → a ≡ b → actionRule (posted known) now (length file / 401) b .code ≡ 0 → Meets known file held marks b
+    meets-there : (b : Action) → a ≡ b → actionRule (posted known) now (length file / 401) b .code ≡ 0 → Meets known file held seen marks b
     meets-there (Addition rec) same z =
         let p = adds (posted known) now (length file / 401) rec z in
-        record { room = omega (arith, p .room, w .many); good = p .passes; own = own-there rec same; new = new-there (idOf rec) (p .new) }
+        record {
+          room = omega (arith, p .room, w .many);
+          good = p .passes;
+          same = ap (λ (x : Consignor). another x (consignorOf rec)) (w .first) ∙ sym (first-suffices now rec (turns-fit (posted known) (posted-fit known) (length file) (length journal) (w .acts) (w .turns) .sheet .one)) ∙ p .same;
+          own = own-there rec same;
+          new = new-there (idOf rec) (p .new);
+        }
     meets-there (Amendment rec) same z =
         let p = amends (posted known) now (length file / 401) rec z in
-        let l = rules-live file journal held used last marks table w (idOf rec) (p .1) (p .2) in
+        let l = rules-live file journal held seen used last marks table w (idOf rec) (p .1) (p .2) in
         (l .0, record { good = p .0; there = l .1 })
     meets-there (Cancellation id) same z =
         let p = cancels (posted known) now (length file / 401) id z in
-        let l = rules-live file journal held used last marks table w id (p .0) (p .1) in
+        let l = rules-live file journal held seen used last marks table w id (p .0) (p .1) in
         (l .0, record { right = right-id (posted known) now (length file / 401) id z; there = l .1 })
 
-  pub walk-stuck : ((a : Action) → EntryAt journal end used a → Meets known file held marks a → ⊥) → ⊥
+  pub walk-stuck : ((a : Action) → EntryAt journal end used a → Meets known file held seen marks a → ⊥) → ⊥
   walk-stuck none = go (goes .others) (goes .is) (goes .bytes)
     where
       go : (ys : List Action) → all-acts ≡ w .acts ++ ys → entriesOf ys ≡ tail → ⊥

@@ -13,6 +13,7 @@ use Rattle.text.specs.Texts.{bytes}
 use Rattle.psc.specs.Table.{holds}
 use Rattle.ident.specs.Identifier.{shapeOf, weighted, endsRight, rightId}
 use Rattle.ident.specs.Calls.{partsOf}
+use Rattle.ident.specs.Consignor.{consignorIn, anotherIn}
 use Rattle.layout.specs.Layout.{fieldOf}
 use Rattle.fields.specs.Frame.{framed}
 use Rattle.fields.specs.Dates.{daysIn, readDate, readTime}
@@ -40,10 +41,14 @@ unfoldable pub renamed : List ℕ
 renamed = parcel "BO5412345671F" "Jana Novakova" ""
 
 unfoldable pub second : List ℕ
-second = parcel "BO0100010005F" "Jan Novak" ""
+second = parcel "BO5400000015F" "Jan Novak" ""
 
 unfoldable pub third : List ℕ
-third = parcel "BO0100010045F" "Jan Novak" ""
+third = parcel "BO5400000024F" "Jan Novak" ""
+
+-- of another consignor: his number is 1
+unfoldable pub fourth : List ℕ
+fourth = parcel "BO0100010005F" "Jan Novak" ""
 
 -- ---- calls on a file buffer of two places and a journal of 1,600 bytes, each with its answer
 unfoldable pub claims : List (Call × Answer)
@@ -53,10 +58,19 @@ claims =
     ∷ (Add first, answer 2 1)
     ∷ (Add (cancelledRec second), answer 210 19)
     ∷ (Add (sentTo "12345" ""), answer 24 5)
+    ∷ (Add fourth, answer 241 1)
+    ∷ (Undo, accepted)
+    ∷ (Add fourth, accepted)
+    ∷ (Cancel (bytes "BO0100010005F"), accepted)
+    ∷ (Add first, answer 241 1)
+    ∷ (Undo, accepted)
+    ∷ (Undo, accepted)
+    ∷ (Add first, accepted)
     ∷ (Add second, accepted)
+    ∷ (Add fourth, answer 241 1)
     ∷ (Add third, answer 230 0)
     ∷ (Amend third, answer 232 0)
-    ∷ (Cancel (bytes "BO0100010045F"), answer 232 0)
+    ∷ (Cancel (bytes "BO5400000024F"), answer 232 0)
     ∷ (Amend renamed, accepted)
     ∷ (Cancel (bytes "BO5412345671F"), accepted)
     ∷ (Cancel (bytes "BO5412345671F"), answer 233 0)
@@ -66,7 +80,7 @@ claims =
     ∷ (Amend first, answer 231 0)
     ∷ (Amend [], answer 236 0)
     ∷ (Cancel (bytes "BO5412345672F"), answer 1 1)
-    ∷ (Cancel (bytes "BO0100010005F"), accepted)
+    ∷ (Cancel (bytes "BO5400000015F"), accepted)
     ∷ []
 
 abbrev pub claimedCalls : List Call
@@ -77,7 +91,7 @@ claimedAnswers = map (λ (c : Call × Answer). c .1) claims
 
 -- what stands in the end: the amendment of the first, and of the cancellations the second
 unfoldable pub left : List Action
-left = Addition first ∷ Addition second ∷ Amendment renamed ∷ Cancellation (bytes "BO0100010005F") ∷ []
+left = Addition first ∷ Addition second ∷ Amendment renamed ∷ Cancellation (bytes "BO5400000015F") ∷ []
 
 pub record Shown : Type 0 where
   pub answers : answersByRules (posted (holds listed)) 802 1600 claimedCalls ≡ claimedAnswers
@@ -89,5 +103,5 @@ pub record Shown : Type 0 where
   pub read : actionsIn (entriesOf left) ≡ some left
 
 pub shown : Shown
-unfolding holds bytes inField laidOut recordOf parcel sentTo first renamed second third claims left every run numberAfter sameBytes shapeOf weighted endsRight rightId partsOf fieldOf framed daysIn readDate readTime filled contains isHost isMail isMoney codesFrom hasCode withCode added readServices askedOf givenOf travelOf table recordAnswer kept orElse anyRecord actionRule entryRule made rules firstEntry entriesIn Option·elim
+unfolding holds bytes inField laidOut recordOf parcel sentTo first renamed second third fourth claims left consignorIn anotherIn every run numberAfter sameBytes shapeOf weighted endsRight rightId partsOf fieldOf framed daysIn readDate readTime filled contains isHost isMail isMoney codesFrom hasCode withCode added readServices askedOf givenOf travelOf table recordAnswer kept orElse anyRecord actionRule entryRule made rules firstEntry entriesIn Option·elim
 shown = record { answers = refl; stands = refl; records = refl; counts = refl; read = refl }

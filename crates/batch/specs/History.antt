@@ -11,6 +11,7 @@ use Rattle.text.specs.declared.Answer.{Answer}
 use Rattle.text.specs.Answers.{answer, accepted}
 use Rattle.psc.specs.Table.{rightTable, Known}
 use Rattle.ident.specs.Identifier.{rightId}
+use Rattle.record.specs.Consignors.{Strays, OneConsignor}
 use Rattle.posting.specs.File.{lineOf, idAt, fileAnswer, passed}
 use Rattle.posting.specs.Records.{linesOf}
 use Rattle.batch.specs.Actions.{Action, Addition, Amendment, Cancellation, kindOf, bodyOf, entryLength, entriesOf}
@@ -116,6 +117,13 @@ pub record AddedTwice (v : Verdict) (a : Action) (s : State) : Type 0 where
   pub adds : isAddition a ≡ true
   pub present : isPresent (recordsOf (s .actions)) (idIn a) ≡ true
 
+-- 241, add: the record names a consignor, and one that stands, cancelled or not, names another
+pub record NamesAnother (v : Verdict) (a : Action) (s : State) : Type 0 where
+  pub good : BodyMeets v a 0
+  pub adds : isAddition a ≡ true
+  pub absent : isPresent (recordsOf (s .actions)) (idIn a) ≡ false
+  pub strays : Strays (recordsOf (s .actions)) (bodyOf a)
+
 -- 232, amend and cancel: identifier not present
 pub record NotPresent (v : Verdict) (a : Action) (s : State) : Type 0 where
   pub good : BodyMeets v a 0
@@ -134,6 +142,7 @@ pub record NoPlaceLeft (v : Verdict) (n : ℕ) (a : Action) (s : State) : Type 0
   pub good : BodyMeets v a 0
   pub adds : isAddition a ≡ true
   pub absent : isPresent (recordsOf (s .actions)) (idIn a) ≡ false
+  pub same : Strays (recordsOf (s .actions)) (bodyOf a) → ⊥
   pub full : n / 401 ≤ length (recordsOf (s .actions))
 
 -- no code before 231 is met
@@ -178,9 +187,11 @@ pub record AmendsOnePlace (b : Batch) (rec : List ℕ) (file : List ℕ) : Type 
   pub own : idAt (b .file) (writes .place) ≡ idOf rec
   pub line : take 401 (drop (writes .place * 401) file) ≡ lineOf rec
 
--- ---- the file of a batch: its records, each with its line end, then zeros; without the zeros the file check accepts it, with the same four totals
+-- ---- the file of a batch: its records, each with its line end, then zeros; without the zeros the file check accepts it, with the same four
+-- totals; and all records that name a consignor name the same
 pub record GoodFileOf (known : Known) (b : Batch) (records : List (List ℕ)) : Type 0 where
   pub many : length records ≡ b .counts .held
   pub bytes : b .file ≡ zeroFilled (fileLength b) (linesOf records)
   pub cut : take (b .counts .held * 401) (b .file) ≡ linesOf records
   pub passes : fileAnswer known (linesOf records) ≡ passed (b .counts .totals)
+  pub one : OneConsignor records

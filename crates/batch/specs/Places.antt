@@ -1,5 +1,5 @@
 -- "The open batch": what an addition, an amendment and a cancellation meet, and what they make of the file and the totals.
--- A file buffer and how many records it holds stand for the records; places are counted from 0.
+-- A file buffer and how many records it holds stand for the records, and so does the first consignor that they name; places are counted from 0.
 -- Assumes nothing.
 use Prim.Native.Nat.{ℕ, zero, suc, _+_, _-_, _*_}
 use mathlib.Core.Bool.{Bool, true, cond, not}
@@ -11,7 +11,10 @@ use Rattle.text.specs.Answers.{answer, accepted, orElse}
 use Rattle.text.specs.Lists.{sameBytes, overlay}
 use Rattle.psc.specs.Table.{Known}
 use Rattle.ident.specs.Identifier.{rightId}
+use Rattle.ident.specs.declared.consignor.Consignor.{Consignor}
+use Rattle.ident.specs.Consignor.{another}
 use Rattle.layout.specs.Layout.{fieldOf}
+use Rattle.record.specs.Consignors.{consignorOf}
 use Rattle.record.specs.Rules.{toPost, recordAnswer}
 use Rattle.posting.specs.declared.Totals.{Totals}
 use Rattle.posting.specs.File.{lineOf, idAt, totals}
@@ -42,10 +45,12 @@ abbrev pub liveAnswer : List ℕ → ℕ → List ℕ → Answer
 liveAnswer file held id =
     cond (present file id held) (cond (isCancelledAt file (placeOf file id held)) (answer 233 0) accepted) (answer 232 0)
 
-unfoldable pub addAnswer : Known → List ℕ → ℕ → List ℕ → Answer
-addAnswer known file held rec =
+unfoldable pub addAnswer : Known → List ℕ → ℕ → Consignor → List ℕ → Answer
+addAnswer known file held seen rec =
     orElse (recordAnswer (toPost known) rec)
-    (cond (present file (idOf rec) held) (answer 2 1) (cond (leb (held * 401 + 401) (length file)) accepted (answer 230 0)))
+    (cond (present file (idOf rec) held) (answer 2 1)
+    (cond (another seen (consignorOf rec)) (answer 241 1)
+    (cond (leb (held * 401 + 401) (length file)) accepted (answer 230 0))))
 
 unfoldable pub amendAnswer : Known → List ℕ → ℕ → List ℕ → Answer
 amendAnswer known file held rec = orElse (recordAnswer (toPost known) rec) (liveAnswer file held (idOf rec))
@@ -62,9 +67,9 @@ abbrev pub withCancelled : List ℕ → ℕ → List ℕ
 withCancelled file k = set (set file (k * 401 + 340) 48) (k * 401 + 341) 32
 
 -- ---- kinds of entries: 1 addition, 2 cancellation, 3 amendment; no other is ever asked about
-unfoldable pub actionAnswer : Known → List ℕ → ℕ → ℕ → List ℕ → Answer
-actionAnswer known file held kind body =
-    cond (eqb kind 1) (addAnswer known file held body) (cond (eqb kind 3) (amendAnswer known file held body) (cancelAnswer file held body))
+unfoldable pub actionAnswer : Known → List ℕ → ℕ → Consignor → ℕ → List ℕ → Answer
+actionAnswer known file held seen kind body =
+    cond (eqb kind 1) (addAnswer known file held seen body) (cond (eqb kind 3) (amendAnswer known file held body) (cancelAnswer file held body))
 
 unfoldable pub actionFile : List ℕ → ℕ → ℕ → List ℕ → List ℕ
 actionFile file held kind body =

@@ -14,6 +14,7 @@ use Rattle.ident.specs.Identifier.{rightId}
 use Rattle.layout.specs.Layout.{fieldOf}
 use Rattle.record.specs.Codes.{lacks}
 use Rattle.record.specs.Rules.{inFile, toPost, recordAnswer}
+use Rattle.record.specs.Consignors.{strays}
 use Rattle.batch.specs.Actions.{Action, Addition, Amendment, Cancellation, kindOf, sized, entryLength, entriesOf}
 use Rattle.batch.specs.Records.{idOf, hasId, isCancelledRec, recordsOf, some}
 
@@ -27,7 +28,7 @@ posted known rec = recordAnswer (toPost known) rec
 
 -- the codes of the batch's own rules
 abbrev pub batchCodes : List ℕ
-batchCodes = 235 ∷ 238 ∷ 237 ∷ 236 ∷ 2 ∷ 232 ∷ 233 ∷ 230 ∷ 231 ∷ 234 ∷ []
+batchCodes = 235 ∷ 238 ∷ 237 ∷ 236 ∷ 2 ∷ 241 ∷ 232 ∷ 233 ∷ 230 ∷ 231 ∷ 234 ∷ []
 
 -- what proofs ask of a verdict: a record that it accepts has 399 bytes and a blank status, and may stand in a file by the postcodes that exist; and of 399
 -- bytes it never gives a code of the batch's own
@@ -49,10 +50,11 @@ isCancelledThere recs id = some (λ rec. hasId id rec && isCancelledRec rec) rec
 abbrev pub liveRule : List (List ℕ) → List ℕ → Answer
 liveRule recs id = cond (isPresent recs id) (cond (isCancelledThere recs id) (answer 233 0) accepted) (answer 232 0)
 
--- the verdict, then 2, 232, 233 and 230, with so many places
+-- the verdict, then 2, 241, 232, 233 and 230, with so many places
 unfoldable pub actionRule : Verdict → List (List ℕ) → ℕ → Action → Answer
 actionRule v recs places (Addition rec) =
-    orElse (v rec) (cond (isPresent recs (idOf rec)) (answer 2 1) (cond (ltb (length recs) places) accepted (answer 230 0)))
+    orElse (v rec)
+    (cond (isPresent recs (idOf rec)) (answer 2 1) (cond (strays recs rec) (answer 241 1) (cond (ltb (length recs) places) accepted (answer 230 0))))
 actionRule v recs places (Amendment rec) = orElse (v rec) (liveRule recs (idOf rec))
 actionRule v recs places (Cancellation id) = cond (rightId id) (liveRule recs id) (answer 1 1)
 

@@ -7,13 +7,17 @@ use mathlib.Core.List.{List, []}
 use lib.ListN.{length, getD, set, take, drop}
 use lib.Dec.{eqb}
 use Rattle.psc.specs.Table.{Known}
+use Rattle.ident.specs.declared.consignor.Consignor.{Consignor}
 use Rattle.ident.specs.Identifier.{rightId}
+use Rattle.ident.specs.Consignor.{another, orNamed}
 use Rattle.index.specs.Index.{keyAt, seek}
 use Rattle.index.specs.Laws.{Indexed}
 use Rattle.record.specs.Readings.{cancelledRec}
+use Rattle.record.specs.Consignors.{consignorOf, firstOf}
 use Rattle.posting.specs.File.{lineOf}
 use Rattle.batch.specs.declared.Counts.{Counts}
 use Rattle.batch.specs.declared.test.Reached.{Reached}
+use Rattle.batch.specs.declared.test.Marking.{Marking}
 use Rattle.batch.specs.declared.test.Finding.{Finding}
 use Rattle.batch.specs.declared.test.Place.{Place}
 use Rattle.batch.specs.declared.test.Place.the-variants.{At, Nowhere}
@@ -50,21 +54,23 @@ liveFrom marks (suc k) = cond (odd (getD marks k 0)) Nowhere (At k)
 abbrev pub liveIn : List ℕ → ℕ → List ℕ → List ℕ → Place
 liveIn file held marks id = liveFrom marks (seek file 0 id held)
 
--- ---- an addition passes exactly so, and is then noted and marked
-pub record Adds (known : Known) (file : List ℕ) (held : ℕ) (rec : List ℕ) : Type 0 where
+-- ---- an addition passes exactly so, behind records of which this consignor is the first that is named; it is then noted and marked, and its consignor seen
+pub record Adds (known : Known) (file : List ℕ) (held : ℕ) (seen : Consignor) (rec : List ℕ) : Type 0 where
   pub room : held * 401 + 401 ≤ length file
   pub good : posted known rec .code ≡ 0
+  pub same : another seen (consignorOf rec) ≡ false
   pub own : keyAt file 0 held ≡ idOf rec
   pub new : seek file 0 (idOf rec) held ≡ 0
 
-pub record AddedNow (known : Known) (file : List ℕ) (held used : ℕ) (rec marks table marks′ table′ : List ℕ) : Type 0 where
-  pub passes : Adds known file held rec
+pub record AddedNow (known : Known) (file : List ℕ) (held : ℕ) (seen : Consignor) (used : ℕ) (rec marks table : List ℕ) (seen′ : Consignor) (marks′ table′ : List ℕ) : Type 0 where
+  pub passes : Adds known file held seen rec
+  pub nowSeen : seen′ ≡ orNamed seen (consignorOf rec)
   pub nowMarks : marks′ ≡ set marks held (used * 2)
   pub noted : Indexed file 0 (held + 1) table′
 
-pub record Added (known : Known) (file : List ℕ) (held used : ℕ) (rec marks table : List ℕ) (r : Bool) (marks′ table′ : List ℕ) : Type 0 where
-  pub if-so : r ≡ true → AddedNow known file held used rec marks table marks′ table′
-  pub if-not : r ≡ false → Adds known file held rec → ⊥
+pub record Added (known : Known) (file : List ℕ) (held : ℕ) (seen : Consignor) (used : ℕ) (rec marks table : List ℕ) (r : Marking) (marks′ table′ : List ℕ) : Type 0 where
+  pub if-so : r .good ≡ true → AddedNow known file held seen used rec marks table (r .seen) marks′ table′
+  pub if-not : r .good ≡ false → Adds known file held seen rec → ⊥
   pub long : length table′ ≡ length table
 
 -- ---- an amendment, and a cancellation, of the live consignment at k
@@ -95,33 +101,39 @@ pub record Cancelled (file : List ℕ) (held : ℕ) (id marks : List ℕ) (r : B
   pub if-not : r ≡ false → (k : ℕ) → Cancels file held id marks k → ⊥
 
 -- ---- an action at the entry that starts at `used`: what it meets, and what is marked and noted then
-abbrev pub Meets : Known → List ℕ → ℕ → List ℕ → Action → Type 0
-Meets known file held marks (Addition rec) = Adds known file held rec
-Meets known file held marks (Amendment rec) = (k : ℕ) × Amends known file held rec marks k
-Meets known file held marks (Cancellation id) = (k : ℕ) × Cancels file held id marks k
+abbrev pub Meets : Known → List ℕ → ℕ → Consignor → List ℕ → Action → Type 0
+Meets known file held seen marks (Addition rec) = Adds known file held seen rec
+Meets known file held seen marks (Amendment rec) = (k : ℕ) × Amends known file held rec marks k
+Meets known file held seen marks (Cancellation id) = (k : ℕ) × Cancels file held id marks k
 
-abbrev pub marksAfter : (known : Known) (file : List ℕ) (held used : ℕ) (marks : List ℕ) (a : Action) → Meets known file held marks a → List ℕ
-marksAfter known file held used marks (Addition rec) p = set marks held (used * 2)
-marksAfter known file held used marks (Amendment rec) p = set marks (p .0) (used * 2)
-marksAfter known file held used marks (Cancellation id) p = set marks (p .0) (getD marks (p .0) 0 + 1)
+abbrev pub marksAfter : (known : Known) (file : List ℕ) (held : ℕ) (seen : Consignor) (used : ℕ) (marks : List ℕ) (a : Action) → Meets known file held seen marks a → List ℕ
+marksAfter known file held seen used marks (Addition rec) p = set marks held (used * 2)
+marksAfter known file held seen used marks (Amendment rec) p = set marks (p .0) (used * 2)
+marksAfter known file held seen used marks (Cancellation id) p = set marks (p .0) (getD marks (p .0) 0 + 1)
 
 abbrev pub heldAfter : ℕ → Action → ℕ
 heldAfter held (Addition rec) = held + 1
 heldAfter held (Amendment rec) = held
 heldAfter held (Cancellation id) = held
 
-pub record Taken (known : Known) (file : List ℕ) (held used : ℕ) (marks : List ℕ) (a : Action) (marks′ table′ : List ℕ) : Type 0 where
-  pub meets : Meets known file held marks a
-  pub left : marks′ ≡ marksAfter known file held used marks a meets
+abbrev pub seenAfter : Consignor → Action → Consignor
+seenAfter seen (Addition rec) = orNamed seen (consignorOf rec)
+seenAfter seen (Amendment rec) = seen
+seenAfter seen (Cancellation id) = seen
+
+pub record Taken (known : Known) (file : List ℕ) (held : ℕ) (seen : Consignor) (used : ℕ) (marks : List ℕ) (a : Action) (seen′ : Consignor) (marks′ table′ : List ℕ) : Type 0 where
+  pub meets : Meets known file held seen marks a
+  pub sees : seen′ ≡ seenAfter seen a
+  pub left : marks′ ≡ marksAfter known file held seen used marks a meets
   pub noted : Indexed file 0 (heldAfter held a) table′
 
-pub record Judged (known : Known) (file : List ℕ) (held used : ℕ) (marks : List ℕ) (a : Action) (r : Bool) (marks′ table′ : List ℕ) : Type 0 where
-  pub if-so : r ≡ true → Taken known file held used marks a marks′ table′
-  pub if-not : r ≡ false → Meets known file held marks a → ⊥
+pub record Judged (known : Known) (file : List ℕ) (held : ℕ) (seen : Consignor) (used : ℕ) (marks : List ℕ) (a : Action) (r : Marking) (marks′ table′ : List ℕ) : Type 0 where
+  pub if-so : r .good ≡ true → Taken known file held seen used marks a (r .seen) marks′ table′
+  pub if-not : r .good ≡ false → Meets known file held seen marks a → ⊥
 
 -- of the action with this number and this body
-pub record MarkedEntry (known : Known) (file : List ℕ) (held used number : ℕ) (body marks table : List ℕ) (r : Bool) (marks′ table′ : List ℕ) : Type 0 where
-  pub judges : (a : Action) → numberOf a ≡ number → bodyOf a ≡ body → Judged known file held used marks a r marks′ table′
+pub record MarkedEntry (known : Known) (file : List ℕ) (held : ℕ) (seen : Consignor) (used number : ℕ) (body marks table : List ℕ) (r : Marking) (marks′ table′ : List ℕ) : Type 0 where
+  pub judges : (a : Action) → numberOf a ≡ number → bodyOf a ≡ body → Judged known file held seen used marks a r marks′ table′
   pub long : length table′ ≡ length table
 
 -- ---- one step of the walk through the journal
@@ -131,17 +143,17 @@ pub record EntryAt (journal : List ℕ) (end used : ℕ) (a : Action) : Type 0 w
   pub bytes : take (length (entryOf a)) (drop used journal) ≡ entryOf a
   pub within : used + length (entryOf a) ≤ end
 
-pub record StepTaken (known : Known) (file journal : List ℕ) (end held used : ℕ) (marks : List ℕ) (r : Reached) (marks′ table′ : List ℕ) : Type 0 where
+pub record StepTaken (known : Known) (file journal : List ℕ) (end held : ℕ) (seen : Consignor) (used : ℕ) (marks : List ℕ) (r : Reached) (marks′ table′ : List ℕ) : Type 0 where
   pub action : Action
   pub entry : EntryAt journal end used action
-  pub taken : Taken known file held used marks action marks′ table′
+  pub taken : Taken known file held seen used marks action (r .seen) marks′ table′
   pub holds : r .held ≡ heldAfter held action
   pub moves : r .used ≡ used + length (entryOf action)
   pub from : r .last ≡ used
 
-pub record Stepped (known : Known) (file journal : List ℕ) (end held used : ℕ) (marks table : List ℕ) (r : Reached) (marks′ table′ : List ℕ) : Type 0 where
-  pub if-so : r .good ≡ true → StepTaken known file journal end held used marks r marks′ table′
-  pub if-not : r .good ≡ false → (a : Action) → EntryAt journal end used a → Meets known file held marks a → ⊥
+pub record Stepped (known : Known) (file journal : List ℕ) (end held : ℕ) (seen : Consignor) (used : ℕ) (marks table : List ℕ) (r : Reached) (marks′ table′ : List ℕ) : Type 0 where
+  pub if-so : r .good ≡ true → StepTaken known file journal end held seen used marks r marks′ table′
+  pub if-not : r .good ≡ false → (a : Action) → EntryAt journal end used a → Meets known file held seen marks a → ⊥
   pub long : length table′ ≡ length table
 
 pub record Stepping (file journal : List ℕ) (end held used : ℕ) (marks table : List ℕ) : Type 0 where
@@ -151,11 +163,12 @@ pub record Stepping (file journal : List ℕ) (end held used : ℕ) (marks table
   pub bounded : length journal ≤ 1048576
 
 -- ---- the walk so far: the entries up to `used` are those of actions that are acceptable in their turn, and the marks name their records
-pub record Walked (known : Known) (file journal : List ℕ) (held used last : ℕ) (marks table : List ℕ) : Type 0 where
+pub record Walked (known : Known) (file journal : List ℕ) (held : ℕ) (seen : Consignor) (used last : ℕ) (marks table : List ℕ) : Type 0 where
   pub acts : List Action
   pub front : take used journal ≡ entriesOf acts
   pub turns : inTurn (posted known) (length file) (length journal) acts ≡ true
   pub many : length (recordsOf acts) ≡ held
+  pub first : seen ≡ firstOf (recordsOf acts)
   pub named : (i : ℕ) → i < held → getD (recordsOf acts) i [] ≡ markedRecord journal (getD marks i 0)
   pub struck : (i : ℕ) → i < held → isCancelledRec (getD (recordsOf acts) i []) ≡ odd (getD marks i 0)
   pub ids : (i : ℕ) → i < held → keyAt file 0 i ≡ idOf (getD (recordsOf acts) i [])
@@ -164,7 +177,7 @@ pub record Walked (known : Known) (file journal : List ℕ) (held used last : �
 
 -- the whole walk: up to `end`, or nothing stands in a batch with this file and journal and so many bytes used
 pub record WalkedTo (known : Known) (file journal : List ℕ) (end : ℕ) (table : List ℕ) (r : Reached) (marks′ table′ : List ℕ) : Type 0 where
-  pub if-so : r .good ≡ true → Walked known file journal (r .held) end (r .last) marks′ table′
+  pub if-so : r .good ≡ true → Walked known file journal (r .held) (r .seen) end (r .last) marks′ table′
   pub if-not : r .good ≡ false → (c : Counts) → c .used ≡ end → (s : State) → Stands (posted known) (batchOf file journal c) s → ⊥
 
 -- nothing is noted or marked yet
@@ -192,14 +205,15 @@ pub record LinesSame (file journal : List ℕ) (held : ℕ) (marks : List ℕ) (
   pub if-so : r ≡ true → (i : ℕ) → i < held → LineAt file journal marks i
   pub if-not : r ≡ false → ((i : ℕ) → i < held → LineAt file journal marks i) → ⊥
 
--- ---- the test: what stands in a batch, and where its latest entry starts
-pub record Found (known : Known) (b : Batch) (last : ℕ) : Type 0 where
+-- ---- the test: what stands in a batch, the first consignor that its records name, and where its latest entry starts
+pub record Found (known : Known) (b : Batch) (seen : Consignor) (last : ℕ) : Type 0 where
   pub what : State
   pub stands : Stands (posted known) b what
+  pub first : seen ≡ firstOf (recordsOf (what .actions))
   pub latest : last ≡ length (entriesOf (withoutLatest (what .actions)))
 
 pub record Tested (known : Known) (b : Batch) (r : Finding) : Type 0 where
-  pub if-so : r .stands ≡ true → Found known b (r .last)
+  pub if-so : r .stands ≡ true → Found known b (r .seen) (r .last)
   pub if-not : r .stands ≡ false → (s : State) → Stands (posted known) b s → ⊥
 
 -- buffers of the right lengths, and nothing marked or noted yet

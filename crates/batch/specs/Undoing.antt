@@ -9,6 +9,7 @@ use lib.ListN.{length, set, take, drop}
 use lib.Dec.{eqb}
 use Rattle.psc.specs.Table.{Known}
 use Rattle.text.specs.Lists.{sameBytes, overlay}
+use Rattle.ident.specs.declared.consignor.Consignor.{Consignor}
 use Rattle.posting.specs.declared.Totals.{Totals}
 use Rattle.posting.specs.Bounds.{Small}
 use Rattle.posting.specs.File.{recordAt, totals}
@@ -104,7 +105,8 @@ pub record AmendmentOff (file : List ℕ) (c : Counts) (last : ℕ) (old : List 
 -- ---- the latest action of a batch, whose entry starts at `last`, taken off
 pub record Undoable (file journal : List ℕ) (c : Counts) (last : ℕ) : Type 0 where
   pub known : Known
-  pub found : Found known (batchOf file journal c) last
+  pub seen : Consignor
+  pub found : Found known (batchOf file journal c) seen last
   pub some : c .used ≡ 0 → ⊥
 
 pub record TakenBack (file journal : List ℕ) (c : Counts) (last : ℕ) (r : Counts) (file′ : List ℕ) : Type 0 where

@@ -12,6 +12,8 @@ use Rattle.text.specs.Answers.{answer, accepted, orElse, wrongLength}
 use Rattle.text.specs.Lists.{overlay}
 use Rattle.psc.specs.Table.{rightTable, Known}
 use Rattle.psc.specs.Search.{found}
+use Rattle.ident.specs.declared.consignor.Consignor.{Consignor}
+use Rattle.ident.specs.declared.consignor.Consignor.the-variants.{Nobody}
 use Rattle.posting.specs.declared.Totals.{Totals}
 use Rattle.posting.specs.Bounds.{Small}
 use Rattle.posting.specs.File.{recordAt, totalsOver}
@@ -26,10 +28,10 @@ use Rattle.batch.specs.Test.{Found}
 
 -- ---- the answer to an action, and what an accepted one leaves
 -- an action of this kind: 236, then its own refusals, then 231
-unfoldable pub entryAnswer : Known → Batch → ℕ → List ℕ → Answer
-entryAnswer known b kind body =
+unfoldable pub entryAnswer : Known → Batch → Consignor → ℕ → List ℕ → Answer
+entryAnswer known b seen kind body =
     cond (eqb (length body) (bodyLength kind))
-    (orElse (actionAnswer known (b .file) (b .counts .held) kind body)
+    (orElse (actionAnswer known (b .file) (b .counts .held) seen kind body)
     (cond (leb (b .counts .used + entryLength kind) (length (b .journal))) accepted (answer 231 0)))
     wrongLength
 
@@ -47,24 +49,28 @@ entered b kind body =
     (overlay (b .journal) (b .counts .used) (entry kind body))
     (countsOf (actionTotals b kind body) (actionHeld (b .counts .held) kind) (b .counts .used + entryLength kind))
 
--- ---- what every call but opening meets first, under a lent table: 235, 238 or 237; or the table is right, and what stands by looking up in it, and where
--- the latest entry starts
-pub record Passed (psc : List ℕ) (b : Batch) (last : ℕ) : Type 0 where
+-- ---- what every call but opening meets first, under a lent table: 235, 238 or 237; or the table is right, and what stands by looking up in it, the first
+-- consignor that its records name, and where the latest entry starts
+abbrev pub refusedAt : Answer → Gate
+refusedAt a = record { answer = a; seen = Nobody; last = 0 }
+
+pub record Passed (psc : List ℕ) (b : Batch) (seen : Consignor) (last : ℕ) : Type 0 where
   pub right : rightTable psc ≡ true
-  pub found : Found (found psc) b last
+  pub found : Found (found psc) b seen last
 
 pub record Guarded (psc : List ℕ) (b : Batch) (g : Gate) : Type 0 where
-  pub if-so : g .answer .code ≡ 0 → Passed psc b (g .last)
+  pub if-so : g .answer .code ≡ 0 → Passed psc b (g .seen) (g .last)
   pub if-not : (g .answer .code ≡ 0 → ⊥) → (call : Call) → (call ≡ Open → ⊥) → answerUnder psc b call ≡ g .answer
 
 -- ---- the work of an action
--- an action that is accepted, by whatever postcodes exist, with a body of its kind's length
+-- an action that is accepted, by whatever postcodes exist and behind whatever consignor, with a body of its kind's length
 pub record Acceptable (file : List ℕ) (held kind : ℕ) (body : List ℕ) : Type 0 where
   pub few : held ≤ 999
   pub fits : held * 401 ≤ length file
   pub sized : length body ≡ bodyLength kind
   pub known : Known
-  pub accepts : actionAnswer known file held kind body .code ≡ 0
+  pub seen : Consignor
+  pub accepts : actionAnswer known file held seen kind body .code ≡ 0
 
 -- counts that fit buffers of the right lengths
 pub record Ready (file journal : List ℕ) (c : Counts) : Type 0 where
@@ -86,6 +92,6 @@ pub record Countable (file : List ℕ) (c : Counts) (kind : ℕ) (body : List �
   pub room : c .used + 403 < 2000000
 
 -- what the work of an action leaves
-pub record Worked (known : Known) (file journal : List ℕ) (c : Counts) (kind : ℕ) (body : List ℕ) (r : Outcome) (file′ journal′ : List ℕ) : Type 0 where
-  pub answers : r .answer ≡ entryAnswer known (batchOf file journal c) kind body
-  pub leaves : batchOf file′ journal′ (r .counts) ≡ cond (eqb (entryAnswer known (batchOf file journal c) kind body .code) 0) (entered (batchOf file journal c) kind body) (batchOf file journal c)
+pub record Worked (known : Known) (file journal : List ℕ) (c : Counts) (seen : Consignor) (kind : ℕ) (body : List ℕ) (r : Outcome) (file′ journal′ : List ℕ) : Type 0 where
+  pub answers : r .answer ≡ entryAnswer known (batchOf file journal c) seen kind body
+  pub leaves : batchOf file′ journal′ (r .counts) ≡ cond (eqb (entryAnswer known (batchOf file journal c) seen kind body .code) 0) (entered (batchOf file journal c) kind body) (batchOf file journal c)

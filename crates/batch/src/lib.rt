@@ -6,7 +6,7 @@ ghost use Rattle.psc.specs.Search.{found};
 ghost use Rattle.posting.specs.Bounds.{Small};
 ghost use Rattle.posting.specs.File.{totalsOver};
 ghost use Rattle.batch.specs.Places.{oneLiveMore, oneCancelled, amountsReplaced};
-ghost use Rattle.batch.specs.Work.{Guarded, Countable, countsAfter, Ready, Worked};
+ghost use Rattle.batch.specs.Work.{refusedAt, Guarded, Countable, countsAfter, Ready, Worked};
 ghost use Rattle.batch.specs.Batch.{sameTotals, rightLengths, countsOf, noCounts, batchOf, Add, Amend, Cancel, Undo, Called, Opened};
 
 mod entries; // the entries of the journal
@@ -18,6 +18,7 @@ use entries::body_length;
 use entries::clear_entry;
 use entries::put_entry;
 use fields::Hellers;
+use ident::Consignor;
 use places::act;
 use places::action_answer;
 use places::record_number;
@@ -60,9 +61,10 @@ pub struct Counts {
     pub used: usize,
 }
 
-// What a call finds before its work: 235, 238 or 237, or 0 and where the latest entry starts.
+// What a call finds before its work: 235, 238 or 237, or 0, the first consignor that the records name, and where the latest entry starts.
 pub struct Gate {
     pub answer: Answer,
+    pub seen: Consignor,
     pub last: usize,
 }
 
@@ -114,31 +116,34 @@ fn right_lengths(n: usize, m: usize) -> bool
     (n % 401 == 0) & (401 <= n) & (n <= 400_599) & (403 <= m) & (m <= 1_048_576)
 }
 
+fn refused_at(answer: Answer) -> Gate
+    ensures { λ r. ⌜ r ≡ refusedAt answer ⌝ }
+{
+    Gate {
+        answer,
+        seen: Consignor::Nobody,
+        last: 0,
+    }
+}
+
 // What every call but opening checks first: 235, then 238, then 237.
 fn guard(file: &[u8], journal: &[u8], c: Counts, psc: &[u32]) -> Gate
     ensures { λ r. ⌜ Guarded (now (psc .entry)) (batchOf (now (file .entry)) (now (journal .entry)) c) r ⌝ }
 {
     if !right_lengths(file.len(), journal.len()) {
-        return Gate {
-            answer: WRONG_BUFFERS,
-            last: 0,
-        };
+        return refused_at(WRONG_BUFFERS);
     }
     if !psc::right(psc) {
-        return Gate {
-            answer: WRONG_TABLE,
-            last: 0,
-        };
+        return refused_at(WRONG_TABLE);
     }
     let found = test::test(file, journal, c, psc);
     if !found.stands {
-        return Gate {
-            answer: NOTHING_STANDS,
-            last: 0,
-        };
+        return refused_at(NOTHING_STANDS);
     }
+    let seen = found.seen;
     Gate {
         answer: ACCEPTED,
+        seen,
         last: found.last,
     }
 }
@@ -305,12 +310,13 @@ fn enter(
     file: &mut [u8],
     journal: &mut [u8],
     c: Counts,
+    seen: Consignor,
     kind: u8,
     body: &[u8],
     psc: &[u32],
 ) -> Outcome
     requires { ⌜ Ready (now file) (now journal) c ⌝ }
-    ensures { λ r. ⌜ Worked (found (now (psc .entry))) (now (file .entry)) (now (journal .entry)) c kind (now (body .entry)) r (now (file .exit)) (now (journal .exit)) ⌝ }
+    ensures { λ r. ⌜ Worked (found (now (psc .entry))) (now (file .entry)) (now (journal .entry)) c seen kind (now (body .entry)) r (now (file .exit)) (now (journal .exit)) ⌝ }
 {
     let held = c.held;
     let used = c.used;
@@ -321,7 +327,7 @@ fn enter(
             counts: c,
         };
     }
-    let answer = action_answer(file, held, kind, body, psc);
+    let answer = action_answer(file, held, seen, kind, body, psc);
     if answer.code != 0 {
         return Outcome { answer, counts: c };
     }
@@ -364,10 +370,11 @@ pub fn add(file: &mut [u8], journal: &mut [u8], c: Counts, rec: &[u8], psc: &[u3
 {
     let gate = guard(file, journal, c, psc);
     let answer = gate.answer;
+    let seen = gate.seen;
     if answer.code != 0 {
         return Outcome { answer, counts: c };
     }
-    enter(file, journal, c, 1, rec, psc)
+    enter(file, journal, c, seen, 1, rec, psc)
 }
 
 pub fn amend(file: &mut [u8], journal: &mut [u8], c: Counts, rec: &[u8], psc: &[u32]) -> Outcome
@@ -375,10 +382,11 @@ pub fn amend(file: &mut [u8], journal: &mut [u8], c: Counts, rec: &[u8], psc: &[
 {
     let gate = guard(file, journal, c, psc);
     let answer = gate.answer;
+    let seen = gate.seen;
     if answer.code != 0 {
         return Outcome { answer, counts: c };
     }
-    enter(file, journal, c, 3, rec, psc)
+    enter(file, journal, c, seen, 3, rec, psc)
 }
 
 pub fn cancel(file: &mut [u8], journal: &mut [u8], c: Counts, id: &[u8], psc: &[u32]) -> Outcome
@@ -386,10 +394,11 @@ pub fn cancel(file: &mut [u8], journal: &mut [u8], c: Counts, id: &[u8], psc: &[
 {
     let gate = guard(file, journal, c, psc);
     let answer = gate.answer;
+    let seen = gate.seen;
     if answer.code != 0 {
         return Outcome { answer, counts: c };
     }
-    enter(file, journal, c, 2, id, psc)
+    enter(file, journal, c, seen, 2, id, psc)
 }
 
 // Takes the latest entry off the journal and brings back file and counts.

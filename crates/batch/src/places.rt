@@ -6,6 +6,8 @@ ghost use Rattle.posting.specs.File.{lineOf};
 ghost use Rattle.psc.specs.Search.{found};
 ghost use Rattle.batch.specs.Places.{recordNumber, liveAnswer, addAnswer, amendAnswer, cancelAnswer, withLine, withCancelled, actionAnswer, actionFile, actionHeld};
 ghost use Rattle.batch.specs.Work.{Acceptable};
+use ident::Consignor;
+use posting::OTHER_CONSIGNOR;
 use posting::TWICE;
 use text::ACCEPTED;
 use text::Answer;
@@ -66,17 +68,23 @@ fn live_answer(file: &[u8], held: usize, id: &[u8]) -> Answer
 
 // ---- what an action meets; 231 is not judged here
 
-fn add_answer(file: &[u8], held: usize, rec: &[u8], psc: &[u32]) -> Answer
+// The consignor seen is the first that the records held name.
+fn add_answer(file: &[u8], held: usize, seen: Consignor, rec: &[u8], psc: &[u32]) -> Answer
     requires { ⌜ (held ≤ 999) × (held * 401 ≤ length (now file)) ⌝ }
-    ensures { λ r. ⌜ r ≡ addAnswer (found (now (psc .entry))) (now (file .entry)) held (now (rec .entry)) ⌝ }
+    ensures { λ r. ⌜ r ≡ addAnswer (found (now (psc .entry))) (now (file .entry)) held seen (now (rec .entry)) ⌝ }
 {
-    let a = record::answer(rec, psc, true);
+    let check = record::answer(rec, psc, true);
+    let a = check.answer;
+    let consignor = check.consignor;
     if a.code != 0 {
         return a;
     }
     let found = record_number(file, layout::field(rec, 1), held);
     if found != 0 {
         return TWICE;
+    }
+    if seen.another(consignor) {
+        return OTHER_CONSIGNOR;
     }
     if held * 401 + 401 <= file.len() {
         ACCEPTED
@@ -89,7 +97,7 @@ fn amend_answer(file: &[u8], held: usize, rec: &[u8], psc: &[u32]) -> Answer
     requires { ⌜ (held ≤ 999) × (held * 401 ≤ length (now file)) ⌝ }
     ensures { λ r. ⌜ r ≡ amendAnswer (found (now (psc .entry))) (now (file .entry)) held (now (rec .entry)) ⌝ }
 {
-    let a = record::answer(rec, psc, true);
+    let a = record::answer(rec, psc, true).answer;
     if a.code != 0 {
         return a;
     }
@@ -108,12 +116,19 @@ fn cancel_answer(file: &[u8], held: usize, id: &[u8]) -> Answer
 }
 
 // The kinds are 1 for an addition, 3 for an amendment and 2, which is left, for a cancellation.
-pub(crate) fn action_answer(file: &[u8], held: usize, kind: u8, body: &[u8], psc: &[u32]) -> Answer
+pub(crate) fn action_answer(
+    file: &[u8],
+    held: usize,
+    seen: Consignor,
+    kind: u8,
+    body: &[u8],
+    psc: &[u32],
+) -> Answer
     requires { ⌜ (held ≤ 999) × (held * 401 ≤ length (now file)) ⌝ }
-    ensures { λ r. ⌜ r ≡ actionAnswer (found (now (psc .entry))) (now (file .entry)) held kind (now (body .entry)) ⌝ }
+    ensures { λ r. ⌜ r ≡ actionAnswer (found (now (psc .entry))) (now (file .entry)) held seen kind (now (body .entry)) ⌝ }
 {
     if kind == 1 {
-        return add_answer(file, held, body, psc);
+        return add_answer(file, held, seen, body, psc);
     }
     if kind == 3 {
         return amend_answer(file, held, body, psc);

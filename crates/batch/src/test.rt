@@ -15,10 +15,14 @@ use crate::entries::kind_at;
 use crate::places::held_after;
 use crate::same_totals;
 use crate::totals_over;
-// How far a walk through the journal has come: whether all was well, records held, bytes used, and where the last entry starts.
+use ident::Consignor;
+
+// How far a walk through the journal has come: whether all was well, records held, the first consignor that they name, bytes used, and where
+// the last entry starts.
 pub struct Reached {
     pub good: bool,
     pub held: usize,
+    pub seen: Consignor,
     pub used: usize,
     pub last: usize,
 }
@@ -29,9 +33,16 @@ pub enum Place {
     Nowhere,
 }
 
-// What the test finds: whether something stands in the batch, and where its latest entry starts.
+// Whether an entry passes, and the first consignor that is named with it.
+pub struct Marking {
+    pub good: bool,
+    pub seen: Consignor,
+}
+
+// What the test finds: whether something stands in the batch, the first consignor that its records name, and where its latest entry starts.
 pub struct Finding {
     pub stands: bool,
+    pub seen: Consignor,
     pub last: usize,
 }
 
@@ -40,8 +51,15 @@ fn nothing() -> Finding
 {
     Finding {
         stands: false,
+        seen: Consignor::Nobody,
         last: 0,
     }
+}
+
+fn not_marked(seen: Consignor) -> Marking
+    ensures { λ r. ⌜ r .good ≡ false ⌝ }
+{
+    Marking { good: false, seen }
 }
 
 // The live consignment with this identifier, of those that are noted.
@@ -60,37 +78,46 @@ fn live_place(file: &[u8], held: usize, id: &[u8], marks: &[u32], table: &[u16])
     Place::At(k)
 }
 
-// An addition: a place is left, the record is good, the lent file has its identifier there, and no other has it.
+// An addition: a place is left, the record is good and names no other consignor, the lent file has its identifier there, and no other has it.
 fn mark_addition(
     file: &[u8],
     held: usize,
+    seen: Consignor,
     used: usize,
     rec: &[u8],
     psc: &[u32],
     marks: &mut [u32],
     table: &mut [u16],
-) -> bool
+) -> Marking
     requires { ⌜ Noted (now file) held (now marks) (now table) × (used < 2000000) ⌝ }
-    ensures { λ r. ⌜ Added (found (now (psc .entry))) (now (file .entry)) held used (now (rec .entry)) (now (marks .entry)) (now (table .entry)) r (now (marks .exit)) (now (table .exit)) ⌝ }
+    ensures { λ r. ⌜ Added (found (now (psc .entry))) (now (file .entry)) held seen used (now (rec .entry)) (now (marks .entry)) (now (table .entry)) r (now (marks .exit)) (now (table .exit)) ⌝ }
 {
     let a = held * 401;
     let e = a + 13;
     if file.len() - a < 401 {
-        return false;
+        return not_marked(seen);
     }
-    let answer = record::answer(rec, psc, true);
+    let check = record::answer(rec, psc, true);
+    let answer = check.answer;
+    let consignor = check.consignor;
     if answer.code != 0 {
-        return false;
+        return not_marked(seen);
+    }
+    if seen.another(consignor) {
+        return not_marked(seen);
     }
     if !ident::same(&file[a..e], layout::field(rec, 1)) {
-        return false;
+        return not_marked(seen);
     }
     let before = index::put(table, file, 0, held);
     if before != 0 {
-        return false;
+        return not_marked(seen);
     }
     marks[held] = (used * 2) as u32;
-    true
+    Marking {
+        good: true,
+        seen: seen.or_named(consignor),
+    }
 }
 
 // An amendment: the record is good, and a live consignment has its identifier.
@@ -106,7 +133,7 @@ fn mark_amendment(
     requires { ⌜ Noted (now file) held (now marks) (now table) × (used < 2000000) ⌝ }
     ensures { λ r. ⌜ Amended (found (now (psc .entry))) (now (file .entry)) held used (now (rec .entry)) (now (marks .entry)) r (now (marks .exit)) ⌝ }
 {
-    let answer = record::answer(rec, psc, true);
+    let answer = record::answer(rec, psc, true).answer;
     if answer.code != 0 {
         return false;
     }
@@ -137,23 +164,26 @@ fn mark_cancellation(file: &[u8], held: usize, id: &[u8], marks: &mut [u32], tab
 fn mark_entry(
     file: &[u8],
     held: usize,
+    seen: Consignor,
     used: usize,
     kind: u8,
     body: &[u8],
     psc: &[u32],
     marks: &mut [u32],
     table: &mut [u16],
-) -> bool
+) -> Marking
     requires { ⌜ Noted (now file) held (now marks) (now table) × (used < 2000000) ⌝ }
-    ensures { λ r. ⌜ MarkedEntry (found (now (psc .entry))) (now (file .entry)) held used kind (now (body .entry)) (now (marks .entry)) (now (table .entry)) r (now (marks .exit)) (now (table .exit)) ⌝ }
+    ensures { λ r. ⌜ MarkedEntry (found (now (psc .entry))) (now (file .entry)) held seen used kind (now (body .entry)) (now (marks .entry)) (now (table .entry)) r (now (marks .exit)) (now (table .exit)) ⌝ }
 {
     if kind == 1 {
-        return mark_addition(file, held, used, body, psc, marks, table);
+        return mark_addition(file, held, seen, used, body, psc, marks, table);
     }
     if kind == 3 {
-        return mark_amendment(file, held, used, body, psc, marks, table);
+        let good = mark_amendment(file, held, used, body, psc, marks, table);
+        return Marking { good, seen };
     }
-    mark_cancellation(file, held, body, marks, table)
+    let good = mark_cancellation(file, held, body, marks, table);
+    Marking { good, seen }
 }
 
 // Tests the entry at `used`.
@@ -162,29 +192,43 @@ fn step(
     journal: &[u8],
     end: usize,
     held: usize,
+    seen: Consignor,
     used: usize,
     psc: &[u32],
     marks: &mut [u32],
     table: &mut [u16],
 ) -> Reached
     requires { ⌜ Stepping (now file) (now journal) end held used (now marks) (now table) ⌝ }
-    ensures { λ r. ⌜ Stepped (found (now (psc .entry))) (now (file .entry)) (now (journal .entry)) end held used (now (marks .entry)) (now (table .entry)) r (now (marks .exit)) (now (table .exit)) ⌝ }
+    ensures { λ r. ⌜ Stepped (found (now (psc .entry))) (now (file .entry)) (now (journal .entry)) end held seen used (now (marks .entry)) (now (table .entry)) r (now (marks .exit)) (now (table .exit)) ⌝ }
 {
     let kind = kind_at(journal, end, used);
     if kind == 0 {
         return Reached {
             good: false,
             held,
+            seen,
             used,
             last: used,
         };
     }
     let a = used + 4;
     let e = a + body_length(kind);
-    let good = mark_entry(file, held, used, kind, &journal[a..e], psc, marks, table);
+    let marked = mark_entry(
+        file,
+        held,
+        seen,
+        used,
+        kind,
+        &journal[a..e],
+        psc,
+        marks,
+        table,
+    );
+    let seen = marked.seen;
     Reached {
-        good,
+        good: marked.good,
         held: held_after(held, kind),
+        seen,
         used: e,
         last: used,
     }
@@ -203,20 +247,23 @@ fn walk(
     ensures { λ r. ⌜ WalkedTo (found (now (psc .entry))) (now (file .entry)) (now (journal .entry)) end (now (table .entry)) r (now (marks .exit)) (now (table .exit)) ⌝ }
 {
     let mut held = 0;
+    let mut seen = Consignor::Nobody;
     let mut used = 0;
     let mut last = 0;
     while used < end {
-        let w = step(file, journal, end, held, used, psc, marks, table);
+        let w = step(file, journal, end, held, seen, used, psc, marks, table);
         if !w.good {
             return w;
         }
         held = w.held;
+        seen = w.seen;
         used = w.used;
         last = w.last;
     }
     Reached {
         good: true,
         held,
+        seen,
         used,
         last,
     }
@@ -299,8 +346,11 @@ fn test_with(
     if !text::zero(&journal[used..m]) {
         return nothing();
     }
+    let stands = same_totals(totals_over(file, held), totals);
+    let seen = w.seen;
     Finding {
-        stands: same_totals(totals_over(file, held), totals),
+        stands,
+        seen,
         last: w.last,
     }
 }

@@ -17,10 +17,10 @@ use Rattle.fields.specs.Texts.{contains}
 use Rattle.fields.specs.ServiceTexts.{allDifferent}
 use Rattle.fields.proofs.ByteLaws.{every-exactly}
 use Rattle.fields.proofs.MailLaws.{contains-exactly}
-use Rattle.posting.specs.Records.{upTo}
 use Rattle.posting.proofs.RecordList.{length-upTo, upTo-nth}
 use Rattle.closing.specs.Sets.{countIn, serialOf, piecesOf, piecesIn, serialsIn, saidBy, samePieces, noneTwice, noneMissing, offence}
 use Rattle.closing.specs.Outcomes.{Unequal, Repeated, Missing, SetOutcome, unequal, repeated, missing, faultless}
+use Rattle.posting.specs.File.{upTo}
 
 -- ---- tests that are not true, or not false
 pub never-false : (b : Bool) → (b ≡ false → ⊥) → b ≡ true

@@ -23,8 +23,7 @@ use Rattle.fields.specs.Texts.{contains}
 use Rattle.fields.specs.Numbers.{readCount, numberIn}
 use Rattle.fields.specs.ServiceTexts.{allDifferent}
 use Rattle.fields.proofs.NumberLaws.{count-exactly}
-use Rattle.posting.specs.File.{recordAt, recordsIn}
-use Rattle.posting.specs.Records.{upTo, records}
+use Rattle.posting.specs.File.{upTo, records, recordAt, recordsIn}
 use Rattle.posting.specs.Sums.{kept, live}
 use Rattle.posting.proofs.RecordList.{kept-last}
 use Rattle.closing.specs.declared.sets.Said.{Said}

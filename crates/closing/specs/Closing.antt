@@ -6,8 +6,7 @@ use mathlib.Core.List.{List, [], _∷_}
 use lib.Dec.{eqb}
 use lib.ListN.{getD}
 use Rattle.posting.specs.declared.FileAnswer.{FileAnswer}
-use Rattle.posting.specs.File.{recordsIn, refused, fileCheck}
-use Rattle.posting.specs.Records.{records}
+use Rattle.posting.specs.File.{records, recordsIn, refused, fileCheck}
 use Rattle.closing.specs.Sets.{mainOf, inSet, setUnder, offence}
 
 -- the file's list of records

@@ -14,8 +14,7 @@ use Rattle.fields.specs.Texts.{contains}
 use Rattle.fields.specs.Others.{readStatus}
 use Rattle.fields.specs.ServiceTexts.{allDifferent}
 use Rattle.index.specs.Laws.{Indexed}
-use Rattle.posting.specs.File.{recordAt, recordsIn}
-use Rattle.posting.specs.Records.{upTo}
+use Rattle.posting.specs.File.{upTo, recordAt, recordsIn}
 use Rattle.posting.specs.Sums.{isLive}
 use Rattle.closing.specs.declared.sets.Said.{Said}
 use Rattle.closing.specs.Sets.{mainOf, inSet, piecesIn, serialsIn, setUnder, saidBy, offence}

@@ -13,8 +13,8 @@ use Rattle.fields.specs.Texts.{contains}
 use Rattle.fields.specs.Numbers.{readCount, numberIn}
 use Rattle.fields.specs.Others.{readStatus}
 use Rattle.fields.specs.ServiceTexts.{allDifferent}
-use Rattle.posting.specs.Records.{upTo}
 use Rattle.posting.specs.Sums.{kept, isLive, live}
+use Rattle.posting.specs.File.{upTo}
 
 -- ---- what a record says of its set
 -- field 22, the main identifier

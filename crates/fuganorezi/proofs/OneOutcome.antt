@@ -1,7 +1,7 @@
 -- One outcome only: two that satisfy the promise of a function for C are the same, the caller's array and both buffers included.
 -- Assumes nothing.
 use Prim.Native.Nat.{ℕ}
-use mathlib.Core.Path.{_≡_, _∙_, sym, ap}
+use mathlib.Core.Path.{_≡_, ap}
 use mathlib.Core.Bool.{Bool}
 use mathlib.Core.List.{List}
 use Rattle.text.specs.declared.Answer.{Answer}
@@ -17,17 +17,22 @@ use Rattle.fuganorezi.specs.declared.TableOutcome.{TableOutcome}
 use Rattle.fuganorezi.specs.declared.BatchOutcome.{BatchOutcome}
 use Rattle.fuganorezi.specs.declared.CodeAndPlace.{CodeAndPlace}
 use Rattle.fuganorezi.specs.declared.IdentifierParts.{IdentifierParts}
-use Rattle.fuganorezi.specs.Calls.{IdentifierChecked, answerOf, RecordChecked, partsIn, IdentifierWritten, readIn, TableRead, Answered, BatchCalled}
+use Rattle.fuganorezi.specs.declared.IdentifierOutcome.{IdentifierOutcome}
+use Rattle.fuganorezi.specs.declared.RecordOutcome.{RecordOutcome}
+use Rattle.fuganorezi.specs.Calls.{IdentifierChecked, IdentifierRead, RecordChecked, answerOf, partsIn, IdentifierWritten, readIn, TableRead, Answered, BatchCalled}
 
 pub identifier-checked-once : (id : List ℕ) (r s : ℕ) → IdentifierChecked id r → IdentifierChecked id s → r ≡ s
 identifier-checked-once id r s = gives-once _ r s
 
+pub identifier-read-once : (id : List ℕ) (r s : IdentifierOutcome) → IdentifierRead id r → IdentifierRead id s → r ≡ s
+identifier-read-once id r s = gives-once _ r s
+
+pub record-checked-once : (toBePosted : Bool) (table rec : List ℕ) (r s : RecordOutcome) → RecordChecked toBePosted table rec r → RecordChecked toBePosted table rec s → r ≡ s
+record-checked-once toBePosted table rec r s = gives-once _ r s
+
 -- ---- an answer by value is settled by the answer
 by-value-once : (r s : CodeAndPlace) → answerOf r ≡ answerOf s → r ≡ s
 by-value-once r s = ap (λ (a : Answer). record { code = a .code; place = a .place })
-
-pub record-checked-once : (toBePosted : Bool) (table rec : List ℕ) (r s : CodeAndPlace) → RecordChecked toBePosted table rec r → RecordChecked toBePosted table rec s → r ≡ s
-record-checked-once toBePosted table rec r s u v = by-value-once r s (u ∙ sym v)
 
 pub identifier-written-once : (before : List ℕ) (p : IdentifierParts) (r s : CodeAndPlace) (after after′ : List ℕ)
     → IdentifierWritten before p r after → IdentifierWritten before p s after′ → (r ≡ s) × (after ≡ after′)

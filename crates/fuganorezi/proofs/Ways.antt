@@ -6,20 +6,48 @@ use mathlib.Core.List.{List}
 use mathlib.Core.Path.{_≡_, _∙_, sym, ap, subst}
 use Rattle.text.specs.declared.Answer.{Answer}
 use Rattle.ident.specs.declared.Parts.{Parts}
+use Rattle.ident.specs.declared.Reading.{Reading}
+use Rattle.ident.specs.declared.Reading.the-variants.{Right, Refused}
+use Rattle.ident.specs.declared.consignor.Consignor.{Consignor}
+use Rattle.ident.specs.declared.consignor.Consignor.the-variants.{Nobody}
 use Rattle.ident.specs.Calls as Ident
+use Rattle.ident.specs.Consignor.{whose, consignorIn, typeOf, numberOf}
+use Rattle.ident.proofs.Readings.{read-right, read-refused}
 use Rattle.fields.specs.Calls as Fields
+use Rattle.record.specs.declared.RecordCheck.{RecordCheck}
 use Rattle.posting.specs.declared.FileAnswer.{FileAnswer}
 use Rattle.batch.specs.declared.Counts.{Counts}
 use Rattle.batch.specs.declared.Outcome.{Outcome}
 use Rattle.batch.specs.Batch.{Batch, Call, batchOf, answerUnder, Called}
 use Rattle.fuganorezi.specs.declared.BatchOutcome.{BatchOutcome}
 use Rattle.fuganorezi.specs.declared.CodeAndPlace.{CodeAndPlace}
-use Rattle.fuganorezi.specs.Calls.{answerOf, Answered, outcomeOf, BatchCalled}
+use Rattle.fuganorezi.specs.declared.TypeAndNumber.{TypeAndNumber}
+use Rattle.fuganorezi.specs.declared.IdentifierParts.{IdentifierParts}
+use Rattle.fuganorezi.specs.declared.RecordOutcome.{RecordOutcome}
+use Rattle.fuganorezi.specs.Calls.{consignorOut, partsOut, noParts, IdentifierRead, recordOut, answerOf, Answered, outcomeOf, BatchCalled}
 
--- ---- one record, and the writers: what was promised of the answer holds of it by value
-pub answer-by-value : {a b : Answer} {r : CodeAndPlace} → a ≡ b → answerOf r ≡ a → answerOf r ≡ b
-answer-by-value e given = given ∙ e
+-- ---- an identifier that is read
+pub consignor-by-value : (c : Consignor) (t n : ℕ) → t ≡ typeOf c → n ≡ numberOf c → record { kind = t; number = n } ≡ consignorOut c
+consignor-by-value c t n et en = rw (et, en)
 
+module _ (s : List ℕ) (r : Reading) (read : Ident.Read s r) where
+  pub right-by-value : (p : Parts) (c : Consignor) (n : TypeAndNumber) (q : IdentifierParts) → r ≡ Right p → c ≡ whose p → n ≡ consignorOut c → q ≡ partsOut p
+      → IdentifierRead s (record { code = 0; place = 0; consignor = n; parts = q })
+  unfolding consignorIn
+  right-by-value p c n q e ec en eq = let told = read-right s r read p e in rw (en, ec, eq, ← told .1, told .0)
+
+  pub refused-by-value : (a : Answer) (n : TypeAndNumber) (q : IdentifierParts) → r ≡ Refused a → n ≡ consignorOut Nobody → q ≡ noParts
+      → IdentifierRead s (record { code = a .code; place = a .place; consignor = n; parts = q })
+  refused-by-value a n q e en eq = let told = read-refused s r read a e in rw (en, eq, ← told .1, told .0)
+
+-- ---- one record
+pub outcome-by-value : (k : RecordCheck) (n : TypeAndNumber) → n ≡ consignorOut (k .consignor) → record { code = k .answer .code; place = k .answer .place; consignor = n } ≡ recordOut k
+outcome-by-value k n e = rw e
+
+pub record-by-value : {a b : RecordCheck} {r : RecordOutcome} → a ≡ b → r ≡ recordOut a → r ≡ recordOut b
+record-by-value e given = given ∙ ap recordOut e
+
+-- ---- the writers: what was promised of the answer holds of it by value
 -- with the parts that C gave
 pub identifier-by-value : {before after : List ℕ} {p given : Parts} {a : Answer} {r : CodeAndPlace}
     → p ≡ given → Ident.Written before p a after → answerOf r ≡ a → Ident.Written before given (answerOf r) after

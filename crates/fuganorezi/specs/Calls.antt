@@ -8,13 +8,18 @@ use Rattle.text.specs.declared.Answer.{Answer}
 use Rattle.text.specs.Answers.{answer, accepted}
 use Rattle.ident.specs.declared.Parts.{Parts}
 use Rattle.ident.specs.Identifier.{rightId}
+use Rattle.ident.specs.declared.consignor.Consignor.{Consignor}
+use Rattle.ident.specs.declared.consignor.Consignor.the-variants.{Nobody}
 use Rattle.ident.specs.Calls as Ident
+use Rattle.ident.specs.Consignor.{consignorIn, typeOf, numberOf}
 use Rattle.fields.specs.declared.amounts.MoneyReading.the-variants as Money
 use Rattle.fields.specs.declared.amounts.WeightReading.the-variants as Weight
 use Rattle.fields.specs.Calls as Fields
 use Rattle.psc.specs.declared.Reading.{Reading}
 use Rattle.psc.specs.Calls as Psc
+use Rattle.record.specs.declared.RecordCheck.{RecordCheck}
 use Rattle.record.specs.Rules.{checkAnswer}
+use Rattle.record.specs.Consignors.{withConsignor}
 use Rattle.posting.specs.declared.FileAnswer.{FileAnswer}
 use Rattle.posting.specs.File.{totals, fileCheck}
 use Rattle.posting.specs.Report.{numbersOf}
@@ -24,6 +29,9 @@ use Rattle.batch.specs.Batch.{Batch, Call, Open, countsOf, answerUnder, afterUn
 use Rattle.fuganorezi.specs.declared.BatchCounts.{BatchCounts}
 use Rattle.fuganorezi.specs.declared.BatchOutcome.{BatchOutcome}
 use Rattle.fuganorezi.specs.declared.CodeAndPlace.{CodeAndPlace}
+use Rattle.fuganorezi.specs.declared.TypeAndNumber.{TypeAndNumber}
+use Rattle.fuganorezi.specs.declared.IdentifierOutcome.{IdentifierOutcome}
+use Rattle.fuganorezi.specs.declared.RecordOutcome.{RecordOutcome}
 use Rattle.fuganorezi.specs.declared.TableOutcome.{TableOutcome}
 use Rattle.fuganorezi.specs.declared.IdentifierParts.{IdentifierParts}
 
@@ -31,13 +39,33 @@ use Rattle.fuganorezi.specs.declared.IdentifierParts.{IdentifierParts}
 abbrev pub IdentifierChecked : List ℕ → ℕ → Type 0
 IdentifierChecked s r = r ≡ cond (rightId s) (accepted .code) (Ident.notRight .code)
 
--- ---- one record, and the writers: an answer by value
+-- ---- whose an identifier is, as two numbers, and what it says
+abbrev pub consignorOut : Consignor → TypeAndNumber
+consignorOut c = record { kind = typeOf c; number = numberOf c }
+
+abbrev pub partsOut : Parts → IdentifierParts
+partsOut p = record { first = p .first; second = p .second; last = p .last; consignor = p .consignor; posting = p .posting }
+
+abbrev pub noParts : IdentifierParts
+noParts = record { first = 0; second = 0; last = 0; consignor = 0; posting = 0 }
+
+abbrev pub identifierOut : Answer → Consignor → IdentifierParts → IdentifierOutcome
+identifierOut a c p = record { code = a .code; place = a .place; consignor = consignorOut c; parts = p }
+
+-- of a right identifier its consignor and its parts; of anything else neither
+abbrev pub IdentifierRead : List ℕ → IdentifierOutcome → Type 0
+IdentifierRead s r = r ≡ cond (rightId s) (identifierOut accepted (consignorIn s) (partsOut (Ident.partsOf s))) (identifierOut Ident.notRight Nobody noParts)
+
+-- ---- one record: the answer to it in a file, or to one to be posted, under a table of postcodes, and the consignor of field 1
+abbrev pub recordOut : RecordCheck → RecordOutcome
+recordOut k = record { code = k .answer .code; place = k .answer .place; consignor = consignorOut (k .consignor) }
+
+abbrev pub RecordChecked : Bool → List ℕ → List ℕ → RecordOutcome → Type 0
+RecordChecked toBePosted table rec r = r ≡ recordOut (withConsignor (checkAnswer toBePosted table rec) rec)
+
+-- ---- the writers: an answer by value
 abbrev pub answerOf : CodeAndPlace → Answer
 answerOf r = answer (r .code) (r .place)
-
--- the answer to a record in a file, or to one to be posted, under a table of postcodes
-abbrev pub RecordChecked : Bool → List ℕ → List ℕ → CodeAndPlace → Type 0
-RecordChecked toBePosted table rec r = answerOf r ≡ checkAnswer toBePosted table rec
 
 abbrev pub partsIn : IdentifierParts → Parts
 partsIn p = record { first = p .first; second = p .second; last = p .last; consignor = p .consignor; posting = p .posting }

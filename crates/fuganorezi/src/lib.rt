@@ -2,16 +2,19 @@
 ghost use mathlib.Core.Path.{_≡_};
 ghost use mathlib.Core.Bool.{true, false};
 ghost use Rattle.batch.specs.Batch.{noCounts, batchOf, Add, Amend, Cancel, Undo};
-ghost use Rattle.fuganorezi.specs.Calls.{IdentifierChecked, answerOf, RecordChecked, partsIn, IdentifierWritten, AmountWritten, WeightWritten, TableRead, Answered, FileChecked, ClosingChecked, countsIn, outcomeOf, BatchCalled, BatchOpened};
+ghost use Rattle.fuganorezi.specs.Calls.{IdentifierChecked, consignorOut, partsOut, noParts, IdentifierRead, recordOut, RecordChecked, answerOf, partsIn, IdentifierWritten, AmountWritten, WeightWritten, TableRead, Answered, FileChecked, ClosingChecked, countsIn, outcomeOf, BatchCalled, BatchOpened};
 use batch::Counts;
 use batch::Outcome;
 use fields::Grams;
 use fields::Hellers;
 use fields::MoneyReading;
 use fields::WeightReading;
+use ident::Consignor;
 use ident::Parts;
+use ident::Reading;
 use posting::FileAnswer;
 use posting::Totals;
+use record::RecordCheck;
 use text::Answer;
 
 #[no_mangle]
@@ -21,12 +24,13 @@ pub extern "C" fn fuganorezi_identifier_check(bytes: &[u8]) -> u32
     ident::check(bytes).code
 }
 
-// ---- one record, and the writers: code and place by value
+// ---- whose an identifier is, and what it says: by value, with code and place
 
+// 0 and 0 for nobody's.
 #[repr(C)]
-pub struct CodeAndPlace {
-    pub code: u32,
-    pub place: u32,
+pub struct TypeAndNumber {
+    pub kind: u32,
+    pub number: u64,
 }
 
 #[repr(C)]
@@ -38,6 +42,110 @@ pub struct IdentifierParts {
     pub posting: u64,
 }
 
+#[repr(C)]
+pub struct IdentifierOutcome {
+    pub code: u32,
+    pub place: u32,
+    pub consignor: TypeAndNumber,
+    pub parts: IdentifierParts,
+}
+
+fn consignor_out(c: Consignor) -> TypeAndNumber
+    ensures { λ r. ⌜ r ≡ consignorOut c ⌝ }
+{
+    TypeAndNumber {
+        kind: c.kind() as u32,
+        number: c.number(),
+    }
+}
+
+fn parts_out(p: Parts) -> IdentifierParts
+    ensures { λ r. ⌜ r ≡ partsOut p ⌝ }
+{
+    IdentifierParts {
+        first: p.first,
+        second: p.second,
+        last: p.last,
+        consignor: p.consignor,
+        posting: p.posting,
+    }
+}
+
+fn no_parts() -> IdentifierParts
+    ensures { λ r. ⌜ r ≡ noParts ⌝ }
+{
+    IdentifierParts {
+        first: 0,
+        second: 0,
+        last: 0,
+        consignor: 0,
+        posting: 0,
+    }
+}
+
+#[no_mangle]
+pub extern "C" fn fuganorezi_identifier_read(bytes: &[u8]) -> IdentifierOutcome
+    ensures { λ r. ⌜ IdentifierRead (now (bytes .entry)) r ⌝ }
+{
+    match ident::read(bytes) {
+        Reading::Right(parts) => IdentifierOutcome {
+            code: 0,
+            place: 0,
+            consignor: consignor_out(parts.whose()),
+            parts: parts_out(parts),
+        },
+        Reading::Refused(a) => IdentifierOutcome {
+            code: a.code,
+            place: a.place,
+            consignor: consignor_out(Consignor::Nobody),
+            parts: no_parts(),
+        },
+    }
+}
+
+// ---- one record
+
+#[repr(C)]
+pub struct RecordOutcome {
+    pub code: u32,
+    pub place: u32,
+    pub consignor: TypeAndNumber,
+}
+
+fn record_outcome(check: RecordCheck) -> RecordOutcome
+    ensures { λ r. ⌜ r ≡ recordOut check ⌝ }
+{
+    let answer = check.answer;
+    let consignor = check.consignor;
+    RecordOutcome {
+        code: answer.code,
+        place: answer.place,
+        consignor: consignor_out(consignor),
+    }
+}
+
+#[no_mangle]
+pub extern "C" fn fuganorezi_record_check(bytes: &[u8], table: &[u32]) -> RecordOutcome
+    ensures { λ r. ⌜ RecordChecked false (now (table .entry)) (now (bytes .entry)) r ⌝ }
+{
+    record_outcome(record::check(bytes, table))
+}
+
+#[no_mangle]
+pub extern "C" fn fuganorezi_record_check_posting(bytes: &[u8], table: &[u32]) -> RecordOutcome
+    ensures { λ r. ⌜ RecordChecked true (now (table .entry)) (now (bytes .entry)) r ⌝ }
+{
+    record_outcome(record::check_posting(bytes, table))
+}
+
+// ---- the writers: code and place by value
+
+#[repr(C)]
+pub struct CodeAndPlace {
+    pub code: u32,
+    pub place: u32,
+}
+
 fn by_value(a: Answer) -> CodeAndPlace
     ensures { λ r. ⌜ answerOf r ≡ a ⌝ }
 {
@@ -45,20 +153,6 @@ fn by_value(a: Answer) -> CodeAndPlace
         code: a.code,
         place: a.place,
     }
-}
-
-#[no_mangle]
-pub extern "C" fn fuganorezi_record_check(bytes: &[u8], table: &[u32]) -> CodeAndPlace
-    ensures { λ r. ⌜ RecordChecked false (now (table .entry)) (now (bytes .entry)) r ⌝ }
-{
-    by_value(record::check(bytes, table))
-}
-
-#[no_mangle]
-pub extern "C" fn fuganorezi_record_check_posting(bytes: &[u8], table: &[u32]) -> CodeAndPlace
-    ensures { λ r. ⌜ RecordChecked true (now (table .entry)) (now (bytes .entry)) r ⌝ }
-{
-    by_value(record::check_posting(bytes, table))
 }
 
 fn parts_in(p: IdentifierParts) -> Parts

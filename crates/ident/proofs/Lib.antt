@@ -4,6 +4,8 @@ pub mod Ways
 pub mod Writing
 pub mod Comparing
 pub mod Facts
+pub mod Readings
 pub mod SingleDigits
 pub mod RoundTrip
+pub mod Consignors
 pub mod OneOutcome

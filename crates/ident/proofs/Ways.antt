@@ -18,6 +18,9 @@ use Rattle.ident.specs.declared.Parts.{Parts}
 use Rattle.ident.specs.Identifier.{rightPrefix, lastOf, consignorDigits, postingDigits, weights, weighted, checkDigit, passesAt, endsRight, rightId}
 use Rattle.ident.proofs.Shapes.{Looked}
 use Rattle.ident.specs.declared.Reading.the-variants.{Right, Refused}
+use Rattle.ident.specs.declared.consignor.Consignor.{Consignor}
+use Rattle.ident.specs.declared.consignor.Consignor.the-variants.{Named, Nobody}
+use Rattle.ident.specs.Consignor.{whose, another, orNamed}
 use Rattle.ident.specs.Calls.{notRight, Checked, partsOf, Read, written, canWrite, Written}
 
 pub prefix-is : (a b : ℕ) (p q : Bool) → p ≡ isCapital a → q ≡ isCapital b → (p && (q || eqb b 32)) ≡ rightPrefix a b
@@ -123,3 +126,16 @@ write-done s t p b long e n g =
 
 pub can-fill : (p : Parts) (b : Bool) → b ≡ canWrite p → not b ≡ false → canWrite p ≡ true
 can-fill p b e n = sym e ∙ not-false b n
+
+-- ---- whose, another, or_named
+pub whose-nobody : (p : Parts) → p .last ≡ 90 → Nobody ≡ whose p
+whose-nobody p e = rw (eq-eqb (p .last) 90 e)
+
+pub whose-named : (p : Parts) → (p .last ≡ 90 → ⊥) → Named (p .last) (p .consignor) ≡ whose p
+whose-named p n = rw (ne-eqb (p .last) 90 n)
+
+pub both-named : (c d : Consignor) (t n u m : ℕ) → c ≡ Named t n → d ≡ Named u m → not (eqb t u && eqb n m) ≡ another c d
+both-named c d t n u m e g = rw (e, g)
+
+pub stays-named : (c d : Consignor) (t n : ℕ) → c ≡ Named t n → Named t n ≡ orNamed c d
+stays-named c d t n e = rw e

@@ -1,9 +1,14 @@
-// The identifier of 13 bytes: whether it is right, its parts, writing one, comparing two.
+// The identifier of 13 bytes: whether it is right, its parts, whose it is, writing one, comparing two.
+mod consignor;
+
+pub use consignor::Consignor;
 ghost use mathlib.Core.Path.{_≡_};
 ghost use mathlib.Core.Bool.{true};
 ghost use Prim.Native.Nat.{_+_, _*_, _^_, _≤_, _<_};
 ghost use lib.ListN.{length, drop};
 ghost use Rattle.ident.specs.Identifier.{shapeOf, postingDigits, rightPrefix, weights, weighted, checkDigit, passesAt, endsRight, rightId};
+ghost use Rattle.text.specs.Promises.{Gives};
+ghost use Rattle.ident.specs.Consignor.{whose, consignorIn};
 ghost use Rattle.ident.specs.Calls.{partsOf, canWrite, written, Checked, Read, Written, Compared};
 use text::ACCEPTED;
 use text::Answer;
@@ -27,6 +32,20 @@ pub struct Parts {
     pub posting: u64,
 }
 
+impl Parts {
+    // Whose an identifier with these parts is: its last byte is the consignor's type, and CZ names nobody.
+    pub fn whose(self) -> Consignor
+        ensures { λ r. ⌜ Gives (whose self) r ⌝ }
+    {
+        if self.last == b'Z' {
+            Consignor::Nobody
+        } else {
+            Consignor::Named(self.last, self.consignor)
+        }
+    }
+}
+
+// The parts of a right identifier, which say whose it is, or the refusal.
 pub enum Reading {
     Right(Parts),
     Refused(Answer),

@@ -11,10 +11,11 @@ use Rattle.text.specs.declared.Answer.{Answer}
 use Rattle.text.specs.Answers.{answer, accepted, orElse}
 use Rattle.psc.specs.Table.{Known}
 use Rattle.record.specs.Rules.{inFile, recordAnswer}
+use Rattle.record.specs.Consignors.{strays}
 use Rattle.record.specs.Outcomes.{anyPostcode}
 use Rattle.record.proofs.PostcodeCodes.{others-stay}
 use Rattle.posting.specs.declared.FileAnswer.{FileAnswer}
-use Rattle.posting.specs.File.{recordAt, lineEnds, repeats, lineAnswer, fileAnswer}
+use Rattle.posting.specs.File.{recordAt, records, lineEnds, repeats, lineAnswer, fileAnswer}
 use Rattle.posting.specs.Outcomes.{FileOutcome, no-multiple, too-many, first-break, no-break}
 use Rattle.posting.proofs.FirstBreak.{file-outcome, outcome-exactly}
 
@@ -24,7 +25,7 @@ unfolding lineAnswer orElse
 line-stays known file i n21 n24 = go (lineEnds file i) n21 n24
   where
     rest : Answer
-    rest = cond (repeats file i i) (answer 2 1) accepted
+    rest = cond (repeats file i i) (answer 2 1) (cond (strays (records file i) (recordAt file i)) (answer 241 1) accepted)
 
     judged : Answer
     judged = recordAnswer (inFile known) (recordAt file i)

@@ -1,5 +1,5 @@
--- An accepted file is a good one: its records, each with its line end, are the file; each breaks no rule, no two have the same identifier, and the answer
--- has the totals over them. And a file that is made of such records is accepted.
+-- An accepted file is a good one: its records, each with its line end, are the file; each breaks no rule, no two have the same identifier, all that name a
+-- consignor name the same, and the answer has the totals over them. And a file that is made of such records is accepted.
 -- Assumes nothing.
 use Prim.Native.Nat.{ℕ, zero, suc, _+_, _*_, _<_}
 use mathlib.Core.Path.{_≡_, refl, sym, ap, _∙_}
@@ -21,10 +21,12 @@ use Rattle.record.specs.Rules.{inFile, table}
 use Rattle.record.specs.Outcomes.{noneBroken}
 use Rattle.record.proofs.Order.{accepted-exactly as record-accepted-exactly}
 use Rattle.record.proofs.Status.{none-malformed}
+use Rattle.record.specs.Consignors.{OneConsignor}
+use Rattle.record.proofs.Consignors.{one-by-pairs}
 use Rattle.posting.specs.declared.FileAnswer.{FileAnswer}
-use Rattle.posting.specs.File.{lineOf, recordAt, idAt, lineAnswer, passed, totalsOver, recordsIn, fileAnswer}
+use Rattle.posting.specs.File.{upTo, records, lineOf, recordAt, idAt, lineAnswer, passed, totalsOver, recordsIn, fileAnswer}
 use Rattle.posting.specs.Outcomes.{RightLine, no-break, AllRight}
-use Rattle.posting.specs.Records.{upTo, lineAt, lines, records, linesOf, Readable, GoodFile, GoodRecords, MadeOfGood}
+use Rattle.posting.specs.Records.{lineAt, lines, linesOf, Readable, GoodFile, GoodRecords, MadeOfGood}
 use Rattle.posting.specs.Sums.{kept, isLive, isCancelled, live, cancelled, totalsOf}
 use Rattle.posting.proofs.Lines.{line-right-exactly}
 use Rattle.posting.proofs.FirstBreak.{outcome-exactly, accepted-exactly}
@@ -90,6 +92,14 @@ module _ (known : Known) (file : List ℕ) (z : fileAnswer known file .code ≡ 
       map-upTo lineOf (recordAt file) (recordsIn file)
       ∙ sym (upTo-same (lineAt file) (λ i. lineOf (recordAt file i)) (recordsIn file) lines-end)
 
+  one-there : OneConsignor (records file (recordsIn file))
+  one-there =
+      let n = recordsIn file in
+      let nth : (i : ℕ) → i < n → getD (records file n) i [] ≡ recordAt file i = λ i h. upTo-nth (recordAt file) n i [] h in
+      one-by-pairs (records file n) (λ i j h l a.
+      let within : j < n = rw (length-upTo (recordAt file) n) at l in
+      all-right .lines j within .same i h (rw (nth i (omega arith), nth j within) at a))
+
   passes : fileAnswer known file ≡ passed (totalsOver file (recordsIn file))
   passes =
       let a = all-right in
@@ -101,6 +111,7 @@ module _ (known : Known) (file : List ℕ) (z : fileAnswer known file .code ≡ 
     wide = wide-there;
     keeps = keeps-there;
     apart = λ i j h l e. all-right .lines j l .fresh i h e;
+    one = one-there;
     reads = λ i h. readable known (recordAt file i) (keeps-there i h);
     counts = each-counted (recordAt file) (recordsIn file) (λ i h. readable known (recordAt file i) (keeps-there i h) .status);
     answers = passes ∙ ap passed (totals-are-sums file (recordsIn file));
@@ -117,6 +128,7 @@ module _ {known : Known} (recs : List (List ℕ)) (g : GoodRecords known recs) w
     ended = ended-there recs [] i (g .wide) h;
     table = rw (record-there recs [] i (g .wide) h) (record-accepted-exactly (inFile known) (getD recs i []) (g .wide i h) .1 (g .keeps i h));
     fresh = λ j l e. g .apart j i l h (sym (id-there recs [] j (g .wide) (omega arith)) ∙ e ∙ id-there recs [] i (g .wide) h);
+    same = λ j l a. g .one .same j i (rw (record-there recs [] j (g .wide) (omega arith), record-there recs [] i (g .wide) h) at a);
   }
 
   pub file-passes : fileAnswer known (linesOf recs) ≡ passed (totalsOf recs)
@@ -148,6 +160,7 @@ made-exactly known file = (made, λ m. ap (λ (f : List ℕ). fileAnswer known f
             few = omega (arith, all-right known file z .few);
             wide = λ i h. ap length (nth i (omega arith)) ∙ good .wide i (omega arith);
             keeps = λ i h. ap (λ (r : List ℕ). noneBroken (table (inFile known) r)) (nth i (omega arith)) ∙ good .keeps i (omega arith);
+            one = good .one;
             apart = λ i j l h e. good .apart i j l (omega arith) (sym (id i (omega arith)) ∙ e ∙ id j (omega arith));
           };
           bytes = good .bytes;

@@ -1,10 +1,10 @@
 pub mod OneOutcome
 pub mod ReportWays
 pub mod Amounts
+pub mod RecordList
 pub mod Ways
 pub mod Lines
 pub mod FirstBreak
-pub mod RecordList
 pub mod Codes
 pub mod GoodFile
 pub mod AnyPostcode

@@ -10,10 +10,10 @@ use lib.ListN.{length, getD, take, drop, set, length-append, length-set, List·g
 use lib.Seq.{split-at, take-append-seam, drop-append-add, set-split, set-append-left, take-take, take-at, drop-at, getD-at, getD-take, getD-drop, getD-append-add, length-take-le, ext-getD}
 use Rattle.text.specs.Lists.{overlay}
 use Rattle.layout.specs.Layout.{fieldOf}
-use Rattle.posting.specs.File.{lineOf, recordAt, idAt, totalsOver}
+use Rattle.posting.specs.File.{records, lineOf, recordAt, idAt, totalsOver}
 use Rattle.posting.specs.Sums.{totalsOf}
 use Rattle.posting.specs.Outcomes.{Ended}
-use Rattle.posting.specs.Records.{records, linesOf}
+use Rattle.posting.specs.Records.{linesOf}
 use Rattle.posting.proofs.RecordList.{length-upTo, upTo-nth, totals-are-sums}
 
 -- ---- a part in a list changed

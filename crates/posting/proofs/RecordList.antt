@@ -17,8 +17,8 @@ use Rattle.fields.specs.declared.others.StatusReading.{StatusReading}
 use Rattle.fields.specs.declared.others.StatusReading.the-variants as Status
 use Rattle.fields.specs.Others.{readStatus}
 use Rattle.posting.specs.declared.Totals.{Totals}
-use Rattle.posting.specs.File.{recordAt, idAt, totals, amountOf, broughtAs, brought, plusTotals, withRecord, totalsOver}
-use Rattle.posting.specs.Records.{upTo, lineAt, lines, records, Tiled}
+use Rattle.posting.specs.File.{upTo, records, recordAt, idAt, totals, amountOf, broughtAs, brought, plusTotals, withRecord, totalsOver}
+use Rattle.posting.specs.Records.{lineAt, lines, Tiled}
 use Rattle.posting.specs.Sums.{kept, isLive, isCancelled, live, cancelled, cashIn, priceIn, totalsOf}
 
 -- ---- the first n of a row

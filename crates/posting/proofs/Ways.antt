@@ -17,14 +17,21 @@ use Rattle.psc.specs.Table.{rightTable, wrongTable, Known}
 use Rattle.psc.specs.Search.{found}
 use Rattle.psc.proofs.SearchLaws.{found-is-holds}
 use Rattle.record.specs.Rules.{inFile, recordAnswer}
+use Rattle.ident.specs.declared.consignor.Consignor.{Consignor}
+use Rattle.ident.specs.declared.consignor.Consignor.the-variants.{Nobody}
+use Rattle.ident.specs.Consignor.{another, orNamed, firstNamed}
+use Rattle.record.specs.declared.RecordCheck.{RecordCheck}
+use Rattle.record.specs.Consignors.{withConsignor, strays}
+use Rattle.record.proofs.Consignors.{first-suffices, one-none, one-more, first-more}
 use Rattle.posting.specs.declared.FileAnswer.{FileAnswer}
+use Rattle.posting.specs.declared.Line.{Line}
 use Rattle.posting.specs.declared.Totals.{Totals}
 use Rattle.index.specs.Index.{keyAt, seek, Put}
 use Rattle.index.specs.Laws.{Indexed}
 use Rattle.index.proofs.Keys.{key-of-record}
 use Rattle.index.proofs.Slots.{indexed-more, length-noting}
-use Rattle.posting.specs.Slots.{RoomFor, NowNoted, LineAnswered, ToCheck}
-use Rattle.posting.specs.File.{recordAt, idAt, lineEnds, repeats, lineAnswer, noTotals, withRecord, totalsOver, refused, passed, lineOr, breakFrom, recordsIn, fileAnswer, tableRefused, fileCheck}
+use Rattle.posting.specs.Slots.{RoomFor, NowNoted, Seen, LineAnswered, ToCheck}
+use Rattle.posting.specs.File.{upTo, recordAt, records, idAt, lineEnds, repeats, lineAnswer, noTotals, withRecord, totalsOver, refused, passed, lineOr, breakFrom, recordsIn, fileAnswer, tableRefused, fileCheck}
 
 pub refused-is : (c n p : ℕ) (t : Totals) → t ≡ noTotals → record { code = c; number = n; place = p; totals = t } ≡ refused c n p
 refused-is c n p t e = rw e
@@ -64,22 +71,49 @@ module _ (known : Known) (file : List ℕ) (i : ℕ) where
   unfolding lineAnswer
   line-open n = rw (not-true (lineEnds file i) n)
 
-  module _ (ended : not (eqb (getD file (i * 401 + 399) 0) 13 && eqb (getD file (i * 401 + 400) 0) 10) ≡ false) (a : Answer)
-      (ea : a ≡ recordAnswer (inFile known) (take (i * 401 + 399 - i * 401) (drop (i * 401) file))) where
-    here : recordAnswer (inFile known) (recordAt file i) ≡ a
-    here = sym (ea ∙ ap (recordAnswer (inFile known)) (from-start file i 399))
+  module _ (ended : not (eqb (getD file (i * 401 + 399) 0) 13 && eqb (getD file (i * 401 + 400) 0) 10) ≡ false) (k : RecordCheck)
+      (ek : k ≡ withConsignor (recordAnswer (inFile known) (take (i * 401 + 399 - i * 401) (drop (i * 401) file))) (take (i * 401 + 399 - i * 401) (drop (i * 401) file))) where
+    checked-here : k ≡ withConsignor (recordAnswer (inFile known) (recordAt file i)) (recordAt file i)
+    checked-here = ek ∙ rw (from-start file i 399)
 
-    pub line-breaks : (a .code ≡ 0 → ⊥) → a ≡ lineAnswer known file i
-    unfolding lineAnswer orElse
-    line-breaks n = rw (not-false (lineEnds file i) ended, here, ne-eqb (a .code) 0 n)
+    here : recordAnswer (inFile known) (recordAt file i) ≡ k .answer
+    here = sym (ap (λ (x : RecordCheck). x .answer) checked-here)
 
-    pub line-repeats : (b : Bool) → a .code ≡ 0 → b ≡ repeats file i i → b ≡ true → answer 2 1 ≡ lineAnswer known file i
+    pub line-breaks : (k .answer .code ≡ 0 → ⊥) → k .answer ≡ lineAnswer known file i
     unfolding lineAnswer orElse
-    line-repeats b z e t = rw (not-false (lineEnds file i) ended, here, eq-eqb (a .code) 0 z, ← e, t)
+    line-breaks n = rw (not-false (lineEnds file i) ended, here, ne-eqb (k .answer .code) 0 n)
 
-    pub line-passes : (b : Bool) → a .code ≡ 0 → b ≡ repeats file i i → b ≡ false → accepted ≡ lineAnswer known file i
-    unfolding lineAnswer orElse
-    line-passes b z e t = rw (not-false (lineEnds file i) ended, here, eq-eqb (a .code) 0 z, ← e, t)
+    module _ (b : Bool) (z : k .answer .code ≡ 0) (e : b ≡ repeats file i i) where
+      pub line-repeats : b ≡ true → answer 2 1 ≡ lineAnswer known file i
+      unfolding lineAnswer orElse
+      line-repeats t = rw (not-false (lineEnds file i) ended, here, eq-eqb (k .answer .code) 0 z, ← e, t)
+
+      -- the first consignor named suffices
+      module _ (t : b ≡ false) (seen : Consignor) (sees : Seen file i seen) (w : Bool) (ew : w ≡ another seen (k .consignor)) where
+        strays-here : strays (records file i) (recordAt file i) ≡ w
+        strays-here =
+            first-suffices (records file i) (recordAt file i) (sees .one)
+            ∙ rw (← sees .first, ← ap (λ (x : RecordCheck). x .consignor) checked-here) (sym ew)
+
+        pub line-strays : w ≡ true → answer 241 1 ≡ lineAnswer known file i
+        unfolding lineAnswer orElse
+        line-strays q = rw (not-false (lineEnds file i) ended, here, eq-eqb (k .answer .code) 0 z, ← e, t, strays-here, q)
+
+        pub line-passes : w ≡ false → accepted ≡ lineAnswer known file i
+        unfolding lineAnswer orElse
+        line-passes q = rw (not-false (lineEnds file i) ended, here, eq-eqb (k .answer .code) 0 z, ← e, t, strays-here, q)
+
+        pub line-seen : w ≡ false → (n : Consignor) → n ≡ orNamed seen (k .consignor) → Seen file (i + 1) n
+        unfolding upTo
+        line-seen q n en =
+            rw (add-one i)
+            record {
+              one = one-more (records file i) (recordAt file i) (sees .one) (strays-here ∙ q);
+              first =
+                  en
+                  ∙ rw (sees .first, ap (λ (x : RecordCheck). x .consignor) checked-here)
+                  (sym (first-more (records file i) (recordAt file i)));
+            }
 
 -- ---- check
 pub file-odd : (known : Known) (file : List ℕ) (r : FileAnswer) → (length file % 401 ≡ 0 → ⊥) → r ≡ refused 211 0 0 → r ≡ fileAnswer known file
@@ -135,22 +169,26 @@ module _ (known : Known) (file : List ℕ) (m : length file % 401 ≡ 0) (l : le
       let none : length file / 401 - i ≡ 0 = omega arith in
       rw (et, e) ((rw none at (so .same)) ∙ whole)
 
--- the records before i are accepted, and noted in the lent table
-pub record SoFar (known : Known) (file : List ℕ) (i : ℕ) (table₀ table : List ℕ) : Type 0 where
+-- the records before i are accepted, and noted in the lent table, and their consignor seen
+pub record SoFar (known : Known) (file : List ℕ) (i : ℕ) (table₀ table : List ℕ) (seen : Consignor) : Type 0 where
   pub unbroken : Unbroken known file i
   pub noted : Indexed file 0 i table
   pub slots : length table ≡ length table₀
+  pub sees : Seen file i seen
 
-pub so-far-none : (known : Known) (file table : List ℕ) → ToCheck file table → SoFar known file 0 table table
-so-far-none known file table to = record { unbroken = unbroken-start known file; noted = to .none; slots = refl }
+pub so-far-none : (known : Known) (file table : List ℕ) → ToCheck file table → SoFar known file 0 table table Nobody
+unfolding upTo firstNamed
+so-far-none known file table to =
+    record { unbroken = unbroken-start known file; noted = to .none; slots = refl; sees = record { one = one-none; first = refl } }
 
-pub so-far-on : (known : Known) (file : List ℕ) (i : ℕ) (table₀ table after : List ℕ) (a : Answer) → SoFar known file i table₀ table → LineAnswered known file i table after a → a .code ≡ 0 → i < length file / 401
-    → SoFar known file (i + 1) table₀ after
-so-far-on known file i table₀ table after a so answered z h =
+pub so-far-on : (known : Known) (file : List ℕ) (i : ℕ) (table₀ table after : List ℕ) (r : Line) → Unbroken known file i → length table ≡ length table₀ → LineAnswered known file i table after r
+    → r .answer .code ≡ 0 → i < length file / 401 → SoFar known file (i + 1) table₀ after (r .seen)
+so-far-on known file i table₀ table after r unbroken slots answered z h =
     record {
-      unbroken = file-on known file i a h (so .unbroken) (answered .answers) z;
+      unbroken = file-on known file i (r .answer) h unbroken (answered .answers) z;
       noted = answered .notes z .noted;
-      slots = answered .notes z .long ∙ so .slots;
+      slots = answered .notes z .long ∙ slots;
+      sees = answered .sees z;
     }
 
 pub record-with : (file : List ℕ) (i : ℕ) (t r : Totals) → r ≡ withRecord t (take (i * 401 + 399 - i * 401) (drop (i * 401) file)) → r ≡ withRecord t (recordAt file i)

@@ -19,12 +19,22 @@ use Rattle.fields.specs.declared.others.StatusReading.the-variants as Status
 use Rattle.fields.specs.Amounts.{readMoney}
 use Rattle.fields.specs.Others.{readStatus}
 use Rattle.record.specs.Rules.{inFile, recordAnswer}
+use Rattle.record.specs.Consignors.{strays}
 use Rattle.posting.specs.declared.FileAnswer.{FileAnswer}
 use Rattle.posting.specs.declared.Totals.{Totals}
 
 -- ---- records of 401 bytes: 399, then 0Dh 0Ah
 abbrev pub recordAt : List ℕ → ℕ → List ℕ
 recordAt file i = take 399 (drop (i * 401) file)
+
+-- the first n of a row: f 0, f 1, up to f (n - 1)
+unfoldable pub upTo : {A : Type 0} → (ℕ → A) → ℕ → List A
+upTo f zero = []
+upTo f (suc n) = upTo f n ++ f n ∷ []
+
+-- the first n records
+abbrev pub records : List ℕ → ℕ → List (List ℕ)
+records file n = upTo (recordAt file) n
 
 -- a record with its line end
 abbrev pub lineOf : List ℕ → List ℕ
@@ -41,11 +51,12 @@ unfoldable pub repeats : List ℕ → ℕ → ℕ → Bool
 repeats file i zero = false
 repeats file i (suc n) = sameBytes (idAt file n) (idAt file i) || repeats file i n
 
--- ---- what record i breaks: 212 if the line end is wrong, the table, then 2 if an earlier record has the same identifier
+-- ---- what record i breaks: 212 if the line end is wrong, the table, then 2 if an earlier record has the same identifier, then 241 if one names another
+-- consignor
 unfoldable pub lineAnswer : Known → List ℕ → ℕ → Answer
 lineAnswer known file i =
     cond (lineEnds file i)
-    (orElse (recordAnswer (inFile known) (recordAt file i)) (cond (repeats file i i) (answer 2 1) accepted))
+    (orElse (recordAnswer (inFile known) (recordAt file i)) (cond (repeats file i i) (answer 2 1) (cond (strays (records file i) (recordAt file i)) (answer 241 1) accepted)))
     (answer 212 0)
 
 -- ---- totals

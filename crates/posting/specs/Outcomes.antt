@@ -8,7 +8,9 @@ use lib.ListN.{length, getD}
 use Rattle.text.specs.declared.Answer.{Answer}
 use Rattle.text.specs.Answers.{answer, accepted}
 use Rattle.psc.specs.Table.{Known}
+use Rattle.ident.specs.Consignor.{Another}
 use Rattle.record.specs.Rules.{inFile, recordAnswer}
+use Rattle.record.specs.Consignors.{consignorOf}
 use Rattle.posting.specs.declared.FileAnswer.{FileAnswer}
 use Rattle.posting.specs.File.{recordAt, idAt, lineAnswer, totalsOver, refused, passed, recordsIn}
 
@@ -24,24 +26,40 @@ pub record Repeated (file : List ℕ) (i n : ℕ) : Type 0 where
   pub before : earlier < n
   pub same : idAt file earlier ≡ idAt file i
 
--- 212 if the line end is wrong (place 0), the record's table, then 2 (place 1) if an earlier record has the same identifier
+-- record i names a consignor, and a record before it, cancelled or not, names another
+pub record Strayed (file : List ℕ) (i : ℕ) : Type 0 where
+  pub earlier : ℕ
+  pub before : earlier < i
+  pub other : Another (consignorOf (recordAt file earlier)) (consignorOf (recordAt file i))
+
+-- 212 if the line end is wrong (place 0), the record's table, then 2 (place 1) if an earlier record has the same identifier, then 241 (place 1) if one names
+-- another consignor
 pub data LineOutcome (known : Known) (file : List ℕ) (i : ℕ) (a : Answer) : Type 0 where
   ends-wrong : (Ended file i → ⊥) → a ≡ answer 212 0 → LineOutcome known file i a
   breaks-table : Ended file i → (recordAnswer (inFile known) (recordAt file i) .code ≡ 0 → ⊥) → a ≡ recordAnswer (inFile known) (recordAt file i) → LineOutcome known file i a
   repeats-earlier : Ended file i → recordAnswer (inFile known) (recordAt file i) .code ≡ 0 → Repeated file i i → a ≡ answer 2 1 → LineOutcome known file i a
-  right : Ended file i → recordAnswer (inFile known) (recordAt file i) .code ≡ 0 → (Repeated file i i → ⊥) → a ≡ accepted → LineOutcome known file i a
+  names-another : Ended file i → recordAnswer (inFile known) (recordAt file i) .code ≡ 0 → (Repeated file i i → ⊥) → Strayed file i → a ≡ answer 241 1 → LineOutcome known file i a
+  right : Ended file i → recordAnswer (inFile known) (recordAt file i) .code ≡ 0 → (Repeated file i i → ⊥) → (Strayed file i → ⊥) → a ≡ accepted → LineOutcome known file i a
 
 -- record i keeps every rule
 pub record RightLine (known : Known) (file : List ℕ) (i : ℕ) : Type 0 where
   pub ended : Ended file i
   pub table : recordAnswer (inFile known) (recordAt file i) .code ≡ 0
   pub fresh : (j : ℕ) → j < i → idAt file j ≡ idAt file i → ⊥
+  pub same : (j : ℕ) → j < i → Another (consignorOf (recordAt file j)) (consignorOf (recordAt file i)) → ⊥
 
--- record i keeps every rule but the last: 2 is its answer exactly then
+-- record i keeps every rule before it: 2 is its answer exactly then
 pub record Twice (known : Known) (file : List ℕ) (i : ℕ) : Type 0 where
   pub ended : Ended file i
   pub table : recordAnswer (inFile known) (recordAt file i) .code ≡ 0
   pub repeated : Repeated file i i
+
+-- record i keeps every rule but the last: 241 is its answer exactly then
+pub record OtherConsignor (known : Known) (file : List ℕ) (i : ℕ) : Type 0 where
+  pub ended : Ended file i
+  pub table : recordAnswer (inFile known) (recordAt file i) .code ≡ 0
+  pub fresh : Repeated file i i → ⊥
+  pub strayed : Strayed file i
 
 -- ---- the whole file
 -- First 211 if the length isn't a multiple of 401, then 213 if over 999 records; then the first break, with all totals zero; otherwise 0 and the totals.

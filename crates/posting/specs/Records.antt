@@ -14,13 +14,9 @@ use Rattle.fields.specs.Amounts.{readMoney}
 use Rattle.fields.specs.Others.{readStatus}
 use Rattle.record.specs.Rules.{inFile, table}
 use Rattle.record.specs.Outcomes.{noneBroken}
-use Rattle.posting.specs.File.{recordAt, idAt, lineOf, passed, fileAnswer}
+use Rattle.record.specs.Consignors.{OneConsignor}
+use Rattle.posting.specs.File.{upTo, recordAt, records, idAt, lineOf, passed, fileAnswer}
 use Rattle.posting.specs.Sums.{live, cancelled, totalsOf}
-
--- the first n of a row: f 0, f 1, up to f (n - 1)
-unfoldable pub upTo : {A : Type 0} → (ℕ → A) → ℕ → List A
-upTo f zero = []
-upTo f (suc n) = upTo f n ++ f n ∷ []
 
 -- ---- n lines of 401 bytes, and their records
 abbrev pub lineAt : List ℕ → ℕ → List ℕ
@@ -28,9 +24,6 @@ lineAt file i = take 401 (drop (i * 401) file)
 
 abbrev pub lines : List ℕ → ℕ → List (List ℕ)
 lines file n = upTo (lineAt file) n
-
-abbrev pub records : List ℕ → ℕ → List (List ℕ)
-records file n = upTo (recordAt file) n
 
 pub record Tiled (file : List ℕ) (n : ℕ) : Type 0 where
   pub together : joined (lines file n) ≡ file
@@ -50,23 +43,25 @@ pub record Readable (rec : List ℕ) : Type 0 where
 abbrev pub linesOf : List (List ℕ) → List ℕ
 linesOf recs = joined (map lineOf recs)
 
--- Its n records, each with its line end, are the file. Each breaks no rule, and no two have the same identifier. Every record is counted as live or as
--- cancelled, and the answer has the totals over them.
+-- Its n records, each with its line end, are the file. Each breaks no rule, no two have the same identifier, and all that name a consignor name the same.
+-- Every record is counted as live or as cancelled, and the answer has the totals over them.
 pub record GoodFile (known : Known) (file : List ℕ) (n : ℕ) : Type 0 where
   pub bytes : file ≡ linesOf (records file n)
   pub wide : (i : ℕ) → i < n → length (recordAt file i) ≡ 399
   pub keeps : (i : ℕ) → i < n → noneBroken (table (inFile known) (recordAt file i)) ≡ true
   pub apart : (i j : ℕ) → i < j → j < n → idAt file i ≡ idAt file j → ⊥
+  pub one : OneConsignor (records file n)
   pub reads : (i : ℕ) → i < n → Readable (recordAt file i)
   pub counts : length (live (records file n)) + length (cancelled (records file n)) ≡ n
   pub answers : fileAnswer known file ≡ passed (totalsOf (records file n))
 
--- ---- records that make such a file: at most 999, each of 399 bytes and breaking no rule, no two with the same identifier
+-- ---- records that make such a file: at most 999, each of 399 bytes and breaking no rule, no two with the same identifier, of one consignor
 pub record GoodRecords (known : Known) (recs : List (List ℕ)) : Type 0 where
   pub few : length recs ≤ 999
   pub wide : (i : ℕ) → i < length recs → length (getD recs i []) ≡ 399
   pub keeps : (i : ℕ) → i < length recs → noneBroken (table (inFile known) (getD recs i [])) ≡ true
   pub apart : (i j : ℕ) → i < j → j < length recs → fieldOf (getD recs i []) 1 ≡ fieldOf (getD recs j []) 1 → ⊥
+  pub one : OneConsignor recs
 
 -- a file that is made of them
 pub record MadeOfGood (known : Known) (file : List ℕ) : Type 0 where

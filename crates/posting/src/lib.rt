@@ -11,12 +11,13 @@ ghost use Rattle.text.specs.Numbers.{decimalPlaces, decimal};
 ghost use Rattle.posting.specs.File.{recordAt, repeats, noTotals, amountOf, brought, withRecord, refused, fileAnswer, tableRefused, fileCheck};
 ghost use Rattle.posting.specs.Calls.{fits, sumOfTotals, totalOr};
 ghost use Rattle.posting.specs.Bounds.{Small};
-ghost use Rattle.posting.specs.Slots.{RoomFor, NowNoted, LineAnswered, ToCheck};
+ghost use Rattle.posting.specs.Slots.{RoomFor, NowNoted, Seen, LineAnswered, ToCheck};
 ghost use Rattle.posting.specs.Report.{numbersOf, behind, line, Report, inputAnswer};
 use fields::Hellers;
 use fields::MoneyReading;
 use fields::StatusReading;
 use fields::Sum;
+use ident::Consignor;
 use psc::WRONG_TABLE;
 use text::ACCEPTED;
 use text::Answer;
@@ -91,25 +92,54 @@ const WRONG_END: Answer = Answer {
 // The identifier is there already, cancelled or not.
 pub const TWICE: Answer = Answer { code: 2, place: 1 };
 
-// What record i breaks, its line end first.
-fn line_answer(file: &[u8], i: usize, psc: &[u32], table: &mut [u16]) -> Answer
-    requires { ⌜ (i < 1000) × (i * 401 + 401 ≤ length (now file)) × RoomFor (now file) i (now table) ⌝ }
+// The identifier names a consignor, and one there, cancelled or not, names another.
+pub const OTHER_CONSIGNOR: Answer = Answer {
+    code: 241,
+    place: 1,
+};
+
+// What a record breaks, and the first consignor that is named up to it.
+pub struct Line {
+    pub answer: Answer,
+    pub seen: Consignor,
+}
+
+// What record i breaks, its line end first. The consignor seen is the first that is named before it.
+fn line_answer(file: &[u8], i: usize, psc: &[u32], table: &mut [u16], seen: Consignor) -> Line
+    requires { ⌜ (i < 1000) × (i * 401 + 401 ≤ length (now file)) × RoomFor (now file) i (now table) × Seen (now file) i seen ⌝ }
     ensures { λ r. ⌜ LineAnswered (found (now (psc .entry))) (now (file .entry)) i (now (table .entry)) (now (table .exit)) r ⌝ }
 {
     let at = i * 401;
     let e = at + 399;
     let ended = (file[e] == 13) & (file[at + 400] == 10);
     if !ended {
-        return WRONG_END;
+        return Line {
+            answer: WRONG_END,
+            seen,
+        };
     }
-    let answer = record::answer(&file[at..e], psc, false);
+    let check = record::answer(&file[at..e], psc, false);
+    let answer = check.answer;
+    let consignor = check.consignor;
     if answer.code != 0 {
-        return answer;
+        return Line { answer, seen };
     }
     if repeated(file, i, table) {
-        return TWICE;
+        return Line {
+            answer: TWICE,
+            seen,
+        };
     }
-    ACCEPTED
+    if seen.another(consignor) {
+        return Line {
+            answer: OTHER_CONSIGNOR,
+            seen,
+        };
+    }
+    Line {
+        answer: ACCEPTED,
+        seen: seen.or_named(consignor),
+    }
 }
 
 // ---- totals
@@ -216,12 +246,15 @@ fn checked(file: &[u8], psc: &[u32], table: &mut [u16]) -> FileAnswer
 {
     let n = file.len() / 401;
     let mut totals = no_totals();
+    let mut seen = Consignor::Nobody;
     let mut i = 0;
     while i < n {
-        let a = line_answer(file, i, psc, table);
-        if a.code != 0 {
-            return refused(a.code, i as u32 + 1, a.place);
+        let line = line_answer(file, i, psc, table, seen);
+        let answer = line.answer;
+        if answer.code != 0 {
+            return refused(answer.code, i as u32 + 1, answer.place);
         }
+        seen = line.seen;
         totals = with_record_at(totals, file, i);
         i += 1;
     }

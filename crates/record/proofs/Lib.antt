@@ -3,6 +3,7 @@ pub mod ReadingWays
 pub mod Ways
 pub mod Order
 pub mod Status
+pub mod Consignors
 pub mod Codes
 pub mod Turns
 pub mod TwoCodes

@@ -1,7 +1,7 @@
 -- Each way out of the functions, from the facts that are known there.
 -- Assumes nothing.
 use Prim.Native.Nat.{ℕ, zero, suc, _+_, _-_, _≤_, _<_}
-use mathlib.Core.Path.{_≡_, refl, sym, ap, _∙_}
+use mathlib.Core.Path.{_≡_, refl, sym, ap, ap₂, _∙_}
 use mathlib.Core.Bool.{Bool, true, false, cond, not, _&&_, _||_, and-false}
 use mathlib.Core.List.{List, [], _∷_, _++_}
 use mathlib.Core.Logic.{⊎-elim}
@@ -17,7 +17,14 @@ use Rattle.text.specs.declared.Answer.{Answer}
 use Rattle.text.specs.Answers.{answer, accepted, wrongLength, orElse}
 use Rattle.text.specs.Lists.{sameBytes}
 use Rattle.ident.specs.Identifier.{rightId}
-use Rattle.ident.specs.Calls.{Checked}
+use Rattle.ident.specs.declared.Parts.{Parts}
+use Rattle.ident.specs.declared.Reading.{Reading}
+use Rattle.ident.specs.declared.Reading.the-variants as Ident
+use Rattle.ident.specs.declared.consignor.Consignor.{Consignor}
+use Rattle.ident.specs.declared.consignor.Consignor.the-variants.{Nobody}
+use Rattle.ident.specs.Calls.{Read}
+use Rattle.ident.specs.Consignor.{whose, consignorIn}
+use Rattle.ident.proofs.Readings.{read-right, read-refused}
 use Rattle.layout.specs.Layout.{fieldOf}
 use Rattle.psc.specs.Table.{rightTable, wrongTable, Known}
 use Rattle.psc.specs.Search.{found}
@@ -48,6 +55,8 @@ use Rattle.record.specs.declared.readings.When.{When}
 use Rattle.record.specs.declared.rules.Asked.{Asked}
 use Rattle.record.specs.declared.rules.Given.{Given}
 use Rattle.record.specs.declared.rules.Travel.{Travel}
+use Rattle.record.specs.declared.RecordCheck.{RecordCheck}
+use Rattle.record.specs.Consignors.{withConsignor}
 use Rattle.record.specs.Table.{verdict}
 use Rattle.record.specs.Columns.{whens, codeColumn, placeColumn, firstTrue}
 use Rattle.record.specs.Readings.{whenOf, addressOf, streetOf, contactOf, goodsOf, marksOf, pieceOf, tailOf, malformedStatus}
@@ -73,12 +82,19 @@ module _ (s : List Bool) (i r : ℕ) (known : i + firstTrue (drop i s) ≡ r) wh
   true-none h = omega (arith, rw (drop-of-length-le s h) at known)
 
 -- ---- the form of the fields
-pub identifier-is : (rec f : List ℕ) (a : Answer) → f ≡ fieldOf rec 1 → Checked f a → a ≡ verdict (identifierRule rec ∷ [])
-identifier-is rec f a e g = g ∙ rw (← e) (go (rightId f))
-  where
-    go : (t : Bool) → cond t accepted (answer 1 1) ≡ cond (not t) (answer 1 1) accepted
-    go true = refl
-    go false = refl
+module _ (rec f : List ℕ) (r : Reading) (ef : f ≡ fieldOf rec 1) (er : Read f r) where
+  pub identifier-right : (p : Parts) (c : Consignor) → r ≡ Ident.Right p → c ≡ whose p
+      → record { answer = accepted; consignor = c } ≡ withConsignor (verdict (identifierRule rec ∷ [])) rec
+  unfolding consignorIn
+  identifier-right p c e ec = let told = read-right f r er p e in rw (ec, ← told .1, ← ef, told .0)
+
+  pub identifier-refused : (a : Answer) → r ≡ Ident.Refused a → record { answer = a; consignor = Nobody } ≡ withConsignor (verdict (identifierRule rec ∷ [])) rec
+  unfolding consignorIn
+  identifier-refused a e = let told = read-refused f r er a e in rw (← told .1, ← ef, told .0)
+
+-- what was asked of the identifier, as a rule and as a consignor
+pub identifier-asked : (rec : List ℕ) (k : RecordCheck) → k ≡ withConsignor (verdict (identifierRule rec ∷ [])) rec → k .answer ≡ verdict (identifierRule rec ∷ [])
+identifier-asked rec k e = ap (λ (x : RecordCheck). x .answer) e
 
 pub lowest-malformed : (bad : List Bool) (start i : ℕ) → (i ≡ firstTrue bad) × (i ≤ length bad) → i < length bad → answer 210 (start + i) ≡ Malformed start bad
 lowest-malformed bad start i e h = rw (e .0) (sym (lowest 210 bad start (rw (e .0) at h)))
@@ -241,29 +257,33 @@ content-is known rec a c g m p v q f t a1 a2 a3 a4 r3 r2 r1 ev eq ef et e4 e3 g3
     let rest : r2 ≡ verdict (postcode ++ (weight ++ services)) = g2 ∙ rw (e2, later, asked) (table-then postcode (weight ++ services) (λ e. omega arith, (λ e. omega arith, tt))) in
     g1 ∙ rw (e1, rest) (rule-then (addressRule a) (postcode ++ (weight ++ services)) (λ e. omega arith))
 
-pub record-judged : (known : Known) (toBePosted : Bool) (rec : List ℕ) (a : Address) (c : Contact) (g : Goods) (m : Marks) (p : Piece) (form content r : Answer)
-    → a ≡ addressOf rec → c ≡ contactOf rec → g ≡ goodsOf rec → m ≡ marksOf rec → p ≡ pieceOf rec
-    → form ≡ verdict (formOf toBePosted rec a c g m p) → content ≡ verdict (contentOf known rec a c g m p) → r ≡ orElse form content
-    → r ≡ verdict (table (terms toBePosted known) rec)
-unfolding table
-record-judged known toBePosted rec a c g m p form content r ea ec eg em ep ef en er =
-    rw (er, ef, en, ea, ec, eg, em, ep) (table-then (formRules toBePosted rec) (contentRules known rec) (λ e. omega arith, (λ e. omega arith, tt)))
+module _ (known : Known) (toBePosted : Bool) (rec : List ℕ) (a : Address) (c : Contact) (g : Goods) (m : Marks) (p : Piece) (form content r : Answer)
+    (ea : a ≡ addressOf rec) (ec : c ≡ contactOf rec) (eg : g ≡ goodsOf rec) (em : m ≡ marksOf rec) (ep : p ≡ pieceOf rec)
+    (ef : form ≡ verdict (formOf toBePosted rec a c g m p)) (en : content ≡ verdict (contentOf known rec a c g m p)) (er : r ≡ orElse form content) where
+  table-judged : r ≡ verdict (table (terms toBePosted known) rec)
+  unfolding table
+  table-judged = rw (er, ef, en, ea, ec, eg, em, ep) (table-then (formRules toBePosted rec) (contentRules known rec) (λ e. omega arith, (λ e. omega arith, tt)))
 
-pub record-wide : (t : Terms) (rec : List ℕ) → (length rec ≡ 399 → ⊥) → wrongLength ≡ recordAnswer t rec
-unfolding recordAnswer
+  pub record-judged : (k : RecordCheck) → k ≡ withConsignor (verdict (identifierRule rec ∷ [])) rec
+      → record { answer = r; consignor = k .consignor } ≡ withConsignor (verdict (table (terms toBePosted known) rec)) rec
+  record-judged k ek = ap₂ {C = RecordCheck} (λ (x : Answer) (y : Consignor). record { answer = x; consignor = y }) table-judged (ap (λ (x : RecordCheck). x .consignor) ek)
+
+pub record-wide : (t : Terms) (rec : List ℕ) → (length rec ≡ 399 → ⊥) → record { answer = wrongLength; consignor = Nobody } ≡ withConsignor (recordAnswer t rec) rec
+unfolding recordAnswer fieldOf consignorIn rightId
 record-wide t rec n = rw (ne-eqb (length rec) 399 n)
 
-pub record-long : (t : Terms) (rec : List ℕ) (r : Answer) → length rec ≡ 399 → r ≡ verdict (table t rec) → r ≡ recordAnswer t rec
+pub record-long : (t : Terms) (rec : List ℕ) (r : RecordCheck) → length rec ≡ 399 → r ≡ withConsignor (verdict (table t rec)) rec → r ≡ withConsignor (recordAnswer t rec) rec
 unfolding recordAnswer
 record-long t rec r e g = rw (eq-eqb (length rec) 399 e) g
 
 -- ---- under a lent table
-pub table-wrong : (toBePosted : Bool) (psc rec : List ℕ) (b : Bool) → b ≡ rightTable psc → not b ≡ true → wrongTable ≡ checkAnswer toBePosted psc rec
+pub table-wrong : (toBePosted : Bool) (psc rec : List ℕ) (b : Bool) (k : RecordCheck) → b ≡ rightTable psc → not b ≡ true → k ≡ withConsignor (verdict (identifierRule rec ∷ [])) rec
+    → record { answer = wrongTable; consignor = k .consignor } ≡ withConsignor (checkAnswer toBePosted psc rec) rec
 unfolding checkAnswer
-table-wrong toBePosted psc rec b e n = rw (← e, not-true b n)
+table-wrong toBePosted psc rec b k e n ek = rw (ap (λ (x : RecordCheck). x .consignor) ek, ← e, not-true b n)
 
-pub table-right : (toBePosted : Bool) (psc rec : List ℕ) (b : Bool) (r : Answer) → b ≡ rightTable psc → not b ≡ false → r ≡ recordAnswer (terms toBePosted (found psc)) rec
-    → r ≡ checkAnswer toBePosted psc rec
+pub table-right : (toBePosted : Bool) (psc rec : List ℕ) (b : Bool) (r : RecordCheck) → b ≡ rightTable psc → not b ≡ false → r ≡ withConsignor (recordAnswer (terms toBePosted (found psc)) rec) rec
+    → r ≡ withConsignor (checkAnswer toBePosted psc rec) rec
 unfolding checkAnswer
 table-right toBePosted psc rec b r e n g =
     let right : rightTable psc ≡ true = sym e ∙ not-false b n in

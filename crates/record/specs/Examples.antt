@@ -1,10 +1,10 @@
 -- Records that pass, computed over the definitions: so the table does not refuse everything. And postcodes at home and abroad, the two codes of one that
--- does not exist and of a missing weight, and wrong tables.
+-- does not exist and of a missing weight, wrong tables, and whose records are.
 -- Assumes nothing.
 use Prim.Native.Nat.{ℕ}
 use Prim.Native.String.{String}
 use mathlib.Core.Path.{_≡_, refl}
-use mathlib.Core.Bool.{Bool, true, false, _&&_}
+use mathlib.Core.Bool.{Bool, true, false, not, _&&_}
 use mathlib.Core.List.{List, [], _∷_, _++_}
 use lib.Dec.{eqb}
 use Rattle.text.specs.declared.Answer.{Answer}
@@ -14,6 +14,7 @@ use Rattle.text.specs.Numbers.{numberAfter}
 use Rattle.text.specs.Texts.{bytes, allHold}
 use Rattle.ident.specs.Identifier.{shapeOf, weighted, endsRight, rightId}
 use Rattle.ident.specs.Calls.{partsOf}
+use Rattle.ident.specs.Consignor.{typeOf, numberOf, consignorIn, anotherIn}
 use Rattle.psc.specs.Table.{risesFrom, rightTable, holds}
 use Rattle.layout.specs.Layout.{widths, fieldOf}
 use Rattle.fields.specs.Frame.{framed}
@@ -23,6 +24,7 @@ use Rattle.fields.specs.Amounts.{isMoney}
 use Rattle.fields.specs.Services.{codesFrom, hasCode, withCode, added, readServices}
 use Rattle.fields.specs.Examples.{inField}
 use Rattle.record.specs.Rules.{inFile, toPost, askedOf, givenOf, travelOf, table, recordAnswer, checkAnswer}
+use Rattle.record.specs.Consignors.{consignorOf, strays}
 use Rattle.record.specs.BlankAbroad.{tableBlankAbroad, answerBlankAbroad}
 
 -- ---- a record from the texts of its fields, each with spaces behind to its width
@@ -73,7 +75,7 @@ firstPieceWrittenOut =
 unfoldable pub secondPiece : List ℕ
 secondPiece =
     recordOf
-    ("BO0100010005F" ∷ "20240101" ∷ "08:00:00" ∷ "Eva" ∷ "60200" ∷ "" ∷ "Brno" ∷ "" ∷ "" ∷ "" ∷ "" ∷ "" ∷ "" ∷ "" ∷ " 0.001" ∷ "" ∷ "" ∷ "70" ∷ "" ∷ "" ∷ "" ∷ "BO5412345671F" ∷ "02" ∷ "03" ∷ [])
+    ("BO5400000015F" ∷ "20240101" ∷ "08:00:00" ∷ "Eva" ∷ "60200" ∷ "" ∷ "Brno" ∷ "" ∷ "" ∷ "" ∷ "" ∷ "" ∷ "" ∷ "" ∷ " 0.001" ∷ "" ∷ "" ∷ "70" ∷ "" ∷ "" ∷ "" ∷ "BO5412345671F" ∷ "02" ∷ "03" ∷ [])
 
 -- a weight of zero, with this cash on delivery, these services and this variable symbol
 unfoldable pub weighingNothing : String → String → String → List ℕ
@@ -82,11 +84,15 @@ weighingNothing cash services symbol =
     ("BO5412345671F" ∷ "20240101" ∷ "08:00:00" ∷ "Eva" ∷ "60200" ∷ "" ∷ "Brno" ∷ "" ∷ "" ∷ "" ∷ "" ∷ "" ∷ "" ∷ "" ∷ " 0.000" ∷ cash ∷ "" ∷ services ∷ "" ∷ "" ∷ symbol ∷ [])
 
 unfoldable pub cancelledParcel : List ℕ
-cancelledParcel = parcel "BO0100010045F" "Eva" "0 "
+cancelledParcel = parcel "BO3601002032C" "Eva" "0 "
 
 -- ---- the answer to a record, in a file or to be posted
 unfoldable pub answers : ℕ → ℕ → Answer → Bool
 answers code place a = eqb (a .code) code && eqb (a .place) place
+
+-- the consignor of a record: type and number
+unfoldable pub names : ℕ → ℕ → List ℕ → Bool
+names t n rec = eqb (typeOf (consignorOf rec)) t && eqb (numberOf (consignorOf rec)) n
 
 -- the postcodes of these records
 abbrev pub listed : List ℕ
@@ -127,8 +133,17 @@ claims =
     ∷ answers 238 0 (checkAnswer true (11000 ∷ 11000 ∷ []) domestic)  -- wrong tables
     ∷ answers 238 0 (checkAnswer false (100000 ∷ []) [])
     ∷ answers 236 0 (checkAnswer false listed [])
+    ∷ names 70 54 firstPiece  -- whose they are
+    ∷ names 67 3601 cancelledParcel
+    ∷ names 0 0 (sentTo "11000" "")  -- CZ
+    ∷ names 0 0 (parcel "BO5412345672F" "Eva" "")  -- no right identifier
+    ∷ names 0 0 []
+    ∷ not (strays (firstPiece ∷ cancelledParcel ∷ []) (sentTo "11000" ""))
+    ∷ not (strays (sentTo "11000" "" ∷ firstPiece ∷ []) secondPiece)
+    ∷ strays (firstPiece ∷ sentTo "11000" "" ∷ []) cancelledParcel
+    ∷ strays (parcel "BO0100000017F" "Eva" "" ∷ []) (parcel "BO0100000017E" "Eva" "")  -- the same number under another type
     ∷ []
 
 pub shown : allHold claims ≡ true
-unfolding risesFrom rightTable holds bytes allHold every run numberAfter sameBytes shapeOf weighted endsRight rightId partsOf fieldOf framed daysIn readDate readTime filled contains isHost isMail isMoney codesFrom hasCode withCode added readServices askedOf givenOf travelOf table recordAnswer checkAnswer tableBlankAbroad answerBlankAbroad inField laidOut recordOf parcel domestic sentTo cashOnDelivery firstPiece firstPieceWrittenOut secondPiece cancelledParcel weighingNothing answers claims
+unfolding risesFrom rightTable holds bytes allHold every run numberAfter sameBytes shapeOf weighted endsRight rightId partsOf fieldOf framed daysIn readDate readTime filled contains isHost isMail isMoney codesFrom hasCode withCode added readServices askedOf givenOf travelOf table recordAnswer checkAnswer tableBlankAbroad answerBlankAbroad inField laidOut recordOf parcel domestic sentTo cashOnDelivery firstPiece firstPieceWrittenOut secondPiece cancelledParcel weighingNothing answers names claims consignorIn anotherIn
 shown = refl

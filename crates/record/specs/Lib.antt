@@ -2,6 +2,7 @@ pub mod Table
 pub mod Columns
 pub mod Readings
 pub mod Rules
+pub mod Consignors
 pub mod BlankAbroad
 pub mod Codes
 pub mod Outcomes

@@ -8,7 +8,9 @@ ghost use Rattle.psc.specs.Search.{found};
 ghost use Rattle.record.specs.Table.{rule, placesFrom, verdict};
 ghost use Rattle.record.specs.Columns.{whens};
 ghost use Rattle.record.specs.Readings.{whenOf, streetOf, tailOf, malformedStatus};
+ghost use Rattle.record.specs.Consignors.{withConsignor};
 ghost use Rattle.record.specs.Rules.{whenFlags, addressFlags, streetFlags, contactFlags, goodsFlags, marksFlags, pieceFlags, tailFlags, earlyFlags, lateFlags, askedOf, givenOf, isSetPrefix, travelOf, identifierRule, formOf, contentOf, addressRule, twoCodes, postcodeRules, weightRules, serviceRules};
+use crate::RecordCheck;
 use crate::columns::first_true;
 use crate::readings::Address;
 use crate::readings::Contact;
@@ -25,16 +27,26 @@ use fields::PostcodeReading;
 use fields::Services;
 use fields::StatusReading;
 use fields::WeightReading;
+use ident::Consignor;
 use text::ACCEPTED;
 use text::Answer;
 
 // ---- 1 and 210: the form of the fields
 
-// Code 1: field 1 is no right identifier.
-fn identifier_answer(rec: &[u8]) -> Answer
-    ensures { λ r. ⌜ r ≡ verdict (identifierRule (now (rec .entry)) ∷ []) ⌝ }
+// Code 1: field 1 is no right identifier. And whose it is.
+pub(crate) fn identifier_check(rec: &[u8]) -> RecordCheck
+    ensures { λ r. ⌜ r ≡ withConsignor (verdict (identifierRule (now (rec .entry)) ∷ [])) (now (rec .entry)) ⌝ }
 {
-    ident::check(layout::field(rec, 1))
+    match ident::read(layout::field(rec, 1)) {
+        ident::Reading::Right(parts) => RecordCheck {
+            answer: ACCEPTED,
+            consignor: parts.whose(),
+        },
+        ident::Reading::Refused(answer) => RecordCheck {
+            answer,
+            consignor: Consignor::Nobody,
+        },
+    }
 }
 
 // Code 210 at the lowest malformed field, of those from `start` on.
@@ -187,9 +199,10 @@ fn late_answer(rec: &[u8], goods: Goods, marks: Marks, piece: Piece, fresh: bool
     goods_answer(goods, fresh).or_else(rest)
 }
 
-// Codes 1 and 210.
+// Codes 1, which has been asked for, and 210.
 pub(crate) fn form_answer(
     rec: &[u8],
+    identifier: Answer,
     address: Address,
     contact: Contact,
     goods: Goods,
@@ -197,11 +210,12 @@ pub(crate) fn form_answer(
     piece: Piece,
     fresh: bool,
 ) -> Answer
+    requires { ⌜ identifier ≡ verdict (identifierRule (now rec) ∷ []) ⌝ }
     ensures { λ r. ⌜ r ≡ verdict (formOf fresh (now (rec .entry)) address contact goods marks piece) ⌝ }
 {
     let early = early_answer(rec, address, contact);
     let rest = early.or_else(late_answer(rec, goods, marks, piece, fresh));
-    identifier_answer(rec).or_else(rest)
+    identifier.or_else(rest)
 }
 
 // ---- 27, 21, 24, 31 and 34: address, postcode and weight

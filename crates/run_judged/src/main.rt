@@ -10,6 +10,7 @@ mod tables;
 use items::Next;
 use libc::ENOENT;
 use printing::print_answer;
+use printing::print_reading;
 
 // What stands behind the table of an item, and so which call answers it.
 enum Judged {
@@ -23,6 +24,7 @@ enum Kind {
     Identifiers,
     Parts,
     UnderTable(Judged),
+    Consignors,
     Histories,
 }
 
@@ -37,12 +39,19 @@ fn answer_identifier(fd: i32, size: usize, path: &[u8]) -> bool {
     taken.whole && print_answer(ident::check(&bytes[..n]))
 }
 
+fn answer_consignor(fd: i32, size: usize, path: &[u8]) -> bool {
+    let mut bytes = [0u8; 14];
+    let taken = items::take_item(fd, size, path, &mut bytes);
+    let n = taken.put;
+    taken.whole && print_reading(ident::read(&bytes[..n]))
+}
+
 fn answer_record(fd: i32, size: usize, path: &[u8], psc: &[u32]) -> bool {
     // One byte more than a record has, likewise.
     let mut bytes = [0u8; 400];
     let taken = items::take_item(fd, size, path, &mut bytes);
     let n = taken.put;
-    taken.whole && print_answer(record::check(&bytes[..n], psc))
+    taken.whole && print_answer(record::check(&bytes[..n], psc).answer)
 }
 
 fn answer_judged(what: Judged, fd: i32, size: usize, path: &[u8], psc: &[u32]) -> bool {
@@ -70,6 +79,7 @@ fn answer_item(kind: Kind, fd: i32, size: usize, path: &[u8]) -> bool {
         Kind::Identifiers => answer_identifier(fd, size, path),
         Kind::Parts => parts::answer(fd, size, path),
         Kind::UnderTable(what) => answer_under_table(what, fd, size, path),
+        Kind::Consignors => answer_consignor(fd, size, path),
         Kind::Histories => histories::answer(fd, size, path),
     }
 }
@@ -113,6 +123,7 @@ fn main() {
     answer_all(Kind::UnderTable(Judged::Record), b"records.bin");
     answer_all(Kind::UnderTable(Judged::File), b"files.bin");
     answer_all(Kind::UnderTable(Judged::FileToClose), b"closing.bin");
+    answer_all(Kind::Consignors, b"consignors.bin");
     answer_all(Kind::Histories, b"histories.bin");
     answer_all(Kind::UnderTable(Judged::Record), b"rules.bin");
 }

@@ -1,6 +1,9 @@
 // The lines: decimal numbers with single spaces between, and a line feed behind the last. False where nothing can be written.
 use crate::items::wide;
+use ident::Consignor;
+use ident::Reading;
 use libc::STDOUT_FILENO;
+use text::ACCEPTED;
 use text::Answer;
 
 // The sum of some bytes, Adler-32.
@@ -35,4 +38,23 @@ pub(crate) fn print_line(numbers: &[u64]) -> bool {
 
 pub(crate) fn print_answer(answer: Answer) -> bool {
     print_line(&[answer.code as u64, answer.place as u64])
+}
+
+// Code and place, and whose the identifier is: 0 and 0 for nobody's.
+pub(crate) fn print_reading(reading: Reading) -> bool {
+    match reading {
+        Reading::Right(parts) => print_consignor(ACCEPTED, parts.whose()),
+        Reading::Refused(answer) => print_consignor(answer, Consignor::Nobody),
+    }
+}
+
+fn print_consignor(answer: Answer, consignor: Consignor) -> bool {
+    print_line(
+        &[
+            answer.code as u64,
+            answer.place as u64,
+            consignor.kind() as u64,
+            consignor.number(),
+        ],
+    )
 }

@@ -9,7 +9,7 @@ body-length-requires : tie.Need-body-length-requires
 body-length-requires c κs = search needs
 
 returns : tie.Need-returns
-returns c = enter-size _ _ _ _ _ _ _ (c .before .before .before .before .before .before .pre) (c .before .body-length .ensures) (c .if1 .taken)
+returns c = enter-size _ _ _ _ _ _ _ _ (c .before .before .before .before .before .before .pre) (c .before .body-length .ensures) (c .if1 .taken)
 
 action-answer-requires : tie.Need-action-answer-requires
 action-answer-requires c κs = search needs
@@ -39,7 +39,7 @@ counts-after-requires c κs =
     let at-if1 = at-action-answer .before .before in
     let at-body-length = at-if1 .before in
     let start = at-body-length .before .before .before .before in
-    enter-countable _ _ _ _ _ _ _ (start .before .pre) (at-body-length .body-length .ensures) (at-if1 .if1 .left) _ (at-action-answer .action-answer .ensures) (at-if2 .if2 .left)
+    enter-countable _ _ _ _ _ _ _ _ (start .before .pre) (at-body-length .body-length .ensures) (at-if1 .if1 .left) _ (at-action-answer .action-answer .ensures) (at-if2 .if2 .left)
 
 act-requires : tie.Need-act-requires
 act-requires c κs =
@@ -48,7 +48,7 @@ act-requires c κs =
     let at-if1 = at-action-answer .before .before in
     let at-body-length = at-if1 .before in
     let start = at-body-length .before .before .before .before in
-    enter-acceptable _ _ _ _ _ _ _ (start .before .pre) (at-body-length .body-length .ensures) (at-if1 .if1 .left) _ (at-action-answer .action-answer .ensures) (at-if2 .if2 .left)
+    enter-acceptable _ _ _ _ _ _ _ _ (start .before .pre) (at-body-length .body-length .ensures) (at-if1 .if1 .left) _ (at-action-answer .action-answer .ensures) (at-if2 .if2 .left)
 
 put-entry-requires : tie.Need-put-entry-requires
 put-entry-requires c κs = search needs
@@ -67,7 +67,7 @@ returns-4 c =
     let at-if1 = at-action-answer .before .before in
     let at-body-length = at-if1 .before in
     let start = at-body-length .before .before .before .before in
-    enter-done _ _ _ _ _ _ _ (start .before .pre) (at-body-length .body-length .ensures) (at-if1 .if1 .left) _ (at-action-answer .action-answer .ensures) _ _ _ (at-if2 .if2 .left) (at-act .before .before .before .before .if3 .left) (at-act .before .before .counts-after .ensures) (at-act .act .ensures) (c .before .before .put-entry .ensures)
+    enter-done _ _ _ _ _ _ _ _ (start .before .pre) (at-body-length .body-length .ensures) (at-if1 .if1 .left) _ (at-action-answer .action-answer .ensures) _ _ _ (at-if2 .if2 .left) (at-act .before .before .before .before .if3 .left) (at-act .before .before .counts-after .ensures) (at-act .act .ensures) (c .before .before .put-entry .ensures)
 
 pub enter-spec : {M : Type 1} → statement M
 enter-spec =

@@ -13,10 +13,10 @@ use Rattle.posting.proofs.checked.Statement.{statement}
 use Rattle.posting.proofs.checked.Tie as tie
 
 abbrev Inv-loop : tie.InvT-loop
-Inv-loop file psc table₀ n totals₀ i₀ table totals i = (i ≤ length file / 401) × (totals ≡ totalsOver file i) × SoFar (found psc) file i table₀ table
+Inv-loop file psc table₀ n totals₀ seen₀ i₀ table totals seen i = (i ≤ length file / 401) × (totals ≡ totalsOver file i) × SoFar (found psc) file i table₀ table seen
 
 abbrev μ-loop : tie.MeasureT-loop
-μ-loop file psc table₀ n totals₀ i₀ table totals i = length file / 401 - i
+μ-loop file psc table₀ n totals₀ seen₀ i₀ table totals seen i = length file / 401 - i
 
 no-totals-requires : tie.Need-no-totals-requires Inv-loop μ-loop
 no-totals-requires c κs = search needs
@@ -25,7 +25,7 @@ loop-holds : tie.Need-loop-holds Inv-loop μ-loop
 loop-holds c = (omega arith, search totals-start, search so-far-none)
 
 line-answer-requires : tie.Need-line-answer-requires Inv-loop μ-loop
-line-answer-requires c κs = (search needs, search needs, record { noted = search needs; room = omega arith })
+line-answer-requires c κs = (search needs, search needs, record { noted = search needs; room = omega arith }, search needs)
 
 cast-refused : tie.Need-cast-refused Inv-loop μ-loop
 cast-refused c = search needs
@@ -53,8 +53,8 @@ loop-less c = search needs
 
 loop-again : tie.Need-loop-again Inv-loop μ-loop
 loop-again c =
-    let answered = c .before .before .before .before .before .line-answer .ensures in
-    (omega arith, search totals-on, so-far-on _ _ _ _ _ _ _ (search needs) answered (search needs) (search needs))
+    let answered = c .before .before .before .before .before .before .line-answer .ensures in
+    (omega arith, search totals-on, so-far-on _ _ _ _ _ _ _ (search needs) (search needs) answered (search needs) (search needs))
 
 same-length-2 : tie.Need-same-length-2 Inv-loop μ-loop
 same-length-2 c = search needs

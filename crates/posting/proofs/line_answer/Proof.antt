@@ -2,7 +2,7 @@
 -- Assumes nothing.
 use borrow.Author.Needs.{needs}
 use native.Mathlib.Omega.{arith}
-use Rattle.posting.proofs.Ways.{line-open, line-breaks, line-repeats, line-passes}
+use Rattle.posting.proofs.Ways.{line-open, line-breaks, line-repeats, line-strays, line-passes, line-seen}
 use Rattle.posting.proofs.line_answer.Statement.{statement}
 use Rattle.posting.proofs.line_answer.Tie as tie
 
@@ -22,7 +22,7 @@ shared-slice-read-ended-2 : tie.Need-shared-slice-read-ended-2
 shared-slice-read-ended-2 c = search needs
 
 returns : tie.Need-returns
-returns c = record { answers = search line-open; notes = λ z. absurd (omega arith) }
+returns c = record { answers = search line-open; notes = λ z. absurd (omega arith); sees = λ z. absurd (omega arith) }
 
 sub-answer : tie.Need-sub-answer
 sub-answer c = search needs
@@ -37,7 +37,7 @@ answer-requires : tie.Need-answer-requires
 answer-requires c κs = search needs
 
 returns-2 : tie.Need-returns-2
-returns-2 c = record { answers = search line-breaks; notes = λ z. absurd (c .if2 .taken z) }
+returns-2 c = record { answers = search line-breaks; notes = λ z. absurd (c .if2 .taken z); sees = λ z. absurd (c .if2 .taken z) }
 
 repeated-requires : tie.Need-repeated-requires
 repeated-requires c κs = search needs
@@ -46,13 +46,25 @@ same-length : tie.Need-same-length
 same-length c = search needs
 
 returns-3 : tie.Need-returns-3
-returns-3 c = record { answers = search line-repeats; notes = λ z. c .before .before .before .repeated .ensures .1 }
+returns-3 c = record { answers = search line-repeats; notes = λ z. absurd (omega arith); sees = λ z. absurd (omega arith) }
+
+another-requires : tie.Need-another-requires
+another-requires c κs = search needs
 
 same-length-2 : tie.Need-same-length-2
 same-length-2 c = search needs
 
 returns-4 : tie.Need-returns-4
-returns-4 c = record { answers = search line-passes; notes = λ z. c .before .before .before .repeated .ensures .1 }
+returns-4 c = record { answers = search line-strays; notes = λ z. absurd (omega arith); sees = λ z. absurd (omega arith) }
+
+or-named-requires : tie.Need-or-named-requires
+or-named-requires c κs = search needs
+
+same-length-3 : tie.Need-same-length-3
+same-length-3 c = search needs
+
+returns-5 : tie.Need-returns-5
+returns-5 c = record { answers = search line-passes; notes = λ z. search needs; sees = λ z. search line-seen }
 
 pub line-answer-spec : {M : Type 1} → statement M
 line-answer-spec =
@@ -72,5 +84,9 @@ line-answer-spec =
     repeated-requires
     same-length
     returns-3
+    another-requires
     same-length-2
-    returns-4)
+    returns-4
+    or-named-requires
+    same-length-3
+    returns-5)

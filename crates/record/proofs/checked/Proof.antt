@@ -8,6 +8,9 @@ use Rattle.record.proofs.checked.Tie as tie
 right-requires : tie.Need-right-requires
 right-requires c κs = search needs
 
+identifier-check-requires : tie.Need-identifier-check-requires
+identifier-check-requires c κs = search needs
+
 returns : tie.Need-returns
 returns c = search table-wrong
 
@@ -18,4 +21,4 @@ returns-2 : tie.Need-returns-2
 returns-2 c = search table-right
 
 pub checked-spec : {M : Type 1} → statement M
-checked-spec = tie.close (tie.spec right-requires returns answer-requires returns-2)
+checked-spec = tie.close (tie.spec right-requires identifier-check-requires returns answer-requires returns-2)

@@ -1,9 +1,12 @@
 -- `record::judged` meets its contract.
 -- Assumes nothing.
 use borrow.Author.Needs.{needs}
-use Rattle.record.proofs.Ways.{record-judged}
+use Rattle.record.proofs.Ways.{identifier-asked, record-judged}
 use Rattle.record.proofs.judged.Statement.{statement}
 use Rattle.record.proofs.judged.Tie as tie
+
+identifier-check-requires : tie.Need-identifier-check-requires
+identifier-check-requires c κs = search needs
 
 read-address-requires : tie.Need-read-address-requires
 read-address-requires c κs = search needs
@@ -21,7 +24,7 @@ read-piece-requires : tie.Need-read-piece-requires
 read-piece-requires c κs = search needs
 
 form-answer-requires : tie.Need-form-answer-requires
-form-answer-requires c κs = search needs
+form-answer-requires c κs = search identifier-asked
 
 content-answer-requires : tie.Need-content-answer-requires
 content-answer-requires c κs = search needs
@@ -36,6 +39,7 @@ pub judged-spec : {M : Type 1} → statement M
 judged-spec =
     tie.close
     (tie.spec
+    identifier-check-requires
     read-address-requires
     read-contact-requires
     read-goods-requires

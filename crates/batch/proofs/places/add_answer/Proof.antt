@@ -1,7 +1,7 @@
 -- `batch::places::add_answer` meets its contract.
 -- Assumes nothing.
 use borrow.Author.Needs.{needs}
-use Rattle.batch.proofs.ActionWays.{add-broken, add-repeats, add-room, add-full}
+use Rattle.batch.proofs.ActionWays.{add-broken, add-repeats, add-strays, add-room, add-full}
 use Rattle.batch.proofs.places.add_answer.Statement.{statement}
 use Rattle.batch.proofs.places.add_answer.Tie as tie
 
@@ -19,19 +19,25 @@ record-number-requires c κs = search needs
 
 returns-2 : tie.Need-returns-2
 returns-2 c =
-    add-repeats _ _ _ _ _ (c .before .before .before .before .before .answer .ensures) (c .before .before .before .if1 .left) _ (c .before .before .field .ensures) _ (c .before .record-number .ensures) (c .if2 .taken)
+    add-repeats _ _ _ _ _ (c .before .before .before .before .before .before .answer .ensures) (c .before .before .before .if1 .left) _ (c .before .before .field .ensures) _ (c .before .record-number .ensures) _ (c .if2 .taken)
 
-mul-if3 : tie.Need-mul-if3
-mul-if3 c = search needs
-
-add-if3 : tie.Need-add-if3
-add-if3 c = search needs
+another-requires : tie.Need-another-requires
+another-requires c κs = search needs
 
 returns-3 : tie.Need-returns-3
-returns-3 c = search add-room
+returns-3 c = search add-strays
+
+mul-if4 : tie.Need-mul-if4
+mul-if4 c = search needs
+
+add-if4 : tie.Need-add-if4
+add-if4 c = search needs
 
 returns-4 : tie.Need-returns-4
-returns-4 c = search add-full
+returns-4 c = search add-room
+
+returns-5 : tie.Need-returns-5
+returns-5 c = search add-full
 
 pub add-answer-spec : {M : Type 1} → statement M
 add-answer-spec =
@@ -42,7 +48,9 @@ add-answer-spec =
     field-requires
     record-number-requires
     returns-2
-    mul-if3
-    add-if3
+    another-requires
     returns-3
-    returns-4)
+    mul-if4
+    add-if4
+    returns-4
+    returns-5)

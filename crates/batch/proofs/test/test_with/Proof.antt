@@ -78,7 +78,12 @@ same-length-8 : tie.Need-same-length-8
 same-length-8 c = search needs
 
 returns-5 : tie.Need-returns-5
-returns-5 c = search test-rest
+returns-5 c =
+    let at-zero = c .before .before in
+    let at-lines = at-zero .before .before .before in
+    let at-if2 = at-lines .before .before .before .before in
+    let at-walk = at-if2 .before .before .before .before .before .before in
+    test-rest _ _ _ _ _ (at-walk .before .before .before .before .before .before .before .before .before .before .pre) _ _ _ (at-walk .walk .ensures) (at-if2 .if2 .left) (at-lines .before .before .if3 .left) _ (at-lines .lines-same .ensures) (at-zero .before .before .if4 .left) _ (at-zero .zero .ensures) _ (c .nothing5 .ensures) (c .before .if5 .taken)
 
 part-zero-start-2 : tie.Need-part-zero-start-2
 part-zero-start-2 c = search needs

@@ -8,10 +8,10 @@ use Rattle.batch.proofs.test.walk.Statement.{statement}
 use Rattle.batch.proofs.test.walk.Tie as tie
 
 abbrev Inv-loop : tie.InvT-loop
-Inv-loop file journal end psc marks₀ table₀ held₀ used₀ last₀ marks table held used last = Going (found psc) file journal end marks₀ table₀ marks table held used last
+Inv-loop file journal end psc marks₀ table₀ held₀ seen₀ used₀ last₀ marks table held seen used last = Going (found psc) file journal end marks₀ table₀ marks table held seen used last
 
 abbrev μ-loop : tie.MeasureT-loop
-μ-loop file journal end psc marks₀ table₀ held₀ used₀ last₀ marks table held used last = end - used
+μ-loop file journal end psc marks₀ table₀ held₀ seen₀ used₀ last₀ marks table held seen used last = end - used
 
 loop-holds : tie.Need-loop-holds Inv-loop μ-loop
 loop-holds c = search walk-starts
@@ -20,10 +20,10 @@ step-requires : tie.Need-step-requires Inv-loop μ-loop
 step-requires c κs = search going-steps
 
 same-length : tie.Need-same-length Inv-loop μ-loop
-same-length c = c .before .before .before .before .before .before .step .kept .1 .1 .1 .1 .1 .1 .0 ∙ c .before .before .before .before .before .before .before .before .before .before .loop .inv .marksLong
+same-length c = c .before .before .before .before .before .before .step .kept .1 .1 .1 .1 .1 .1 .1 .0 ∙ c .before .before .before .before .before .before .before .before .before .before .loop .inv .marksLong
 
 same-length-2 : tie.Need-same-length-2 Inv-loop μ-loop
-same-length-2 c = c .before .before .before .before .before .before .step .kept .1 .1 .1 .1 .1 .1 .1 .0 ∙ c .before .before .before .before .before .before .before .before .before .before .loop .inv .tableLong
+same-length-2 c = c .before .before .before .before .before .before .step .kept .1 .1 .1 .1 .1 .1 .1 .1 .0 ∙ c .before .before .before .before .before .before .before .before .before .before .loop .inv .tableLong
 
 returns : tie.Need-returns Inv-loop μ-loop
 returns c = search walk-fails

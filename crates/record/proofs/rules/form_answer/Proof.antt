@@ -14,9 +14,6 @@ late-answer-requires c κs = search needs
 or-else-requires : tie.Need-or-else-requires
 or-else-requires c κs = search needs
 
-identifier-answer-requires : tie.Need-identifier-answer-requires
-identifier-answer-requires c κs = search needs
-
 or-else-requires-2 : tie.Need-or-else-requires-2
 or-else-requires-2 c κs = search needs
 
@@ -30,6 +27,5 @@ form-answer-spec =
     early-answer-requires
     late-answer-requires
     or-else-requires
-    identifier-answer-requires
     or-else-requires-2
     returns)
