@@ -115,11 +115,11 @@ pub struct RecordOutcome {
 fn record_outcome(check: RecordCheck) -> RecordOutcome
     ensures { λ r. ⌜ r ≡ recordOut check ⌝ }
 {
-    let answer = check.answer;
+    let said = check.answer;
     let consignor = check.consignor;
     RecordOutcome {
-        code: answer.code,
-        place: answer.place,
+        code: said.code,
+        place: said.place,
         consignor: consignor_out(consignor),
     }
 }

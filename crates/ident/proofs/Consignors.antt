@@ -7,7 +7,7 @@ use mathlib.Core.Bool.{Bool, true, false, cond, not, _&&_, _||_}
 use mathlib.Core.List.{List, [], _∷_, _++_}
 use mathlib.Core.Logic.{_↔_, _⊎_, inl, inr}
 use native.Mathlib.Omega.{arith}
-use borrow.Author.Tests.{eqb-true, eqb-false, eq-eqb}
+use borrow.Author.Tests.{eqb-true, eqb-false, eq-eqb, ne-eqb}
 use lib.Dec.{eqb}
 use lib.ListN.{getD}
 use Rattle.text.proofs.Booleans.{clash}
@@ -129,7 +129,14 @@ same-more cs c one none i j a = go (last-or-before cs c i) (last-or-before cs c 
     go (inr e) (inl f) o = not-there j (turned (rw (e, f) at o))
     go (inr e) (inr f) o = o .differ (e ∙ sym f)
 
--- ---- what was written for a consignor is his, type and number
-pub written-for : (p : Parts) → canWrite p ≡ true → consignorIn (written p) ≡ whose p
-unfolding consignorIn
-written-for p can = rw (written-right p can, written-parts p can)
+-- ---- what was written with a type and a number is read with them, and what was written for CZ names nobody
+module _ (p : Parts) (can : canWrite p ≡ true) where
+  read-as : consignorIn (written p) ≡ whose p
+  unfolding consignorIn
+  read-as = rw (written-right p can, written-parts p can)
+
+  pub written-for : (p .last ≡ 90 → ⊥) → consignorIn (written p) ≡ Named (p .last) (p .consignor)
+  written-for other = read-as ∙ rw (ne-eqb (p .last) 90 other)
+
+  pub written-for-nobody : p .last ≡ 90 → consignorIn (written p) ≡ Nobody
+  written-for-nobody cz = read-as ∙ rw (eq-eqb (p .last) 90 cz)
