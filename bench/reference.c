@@ -266,7 +266,10 @@ static inline enum reading read_amount(const uint8_t *field, uint64_t *hellers)
     return blank(field + whole + FRACTION, WIDTH - FRACTION - whole) ? VALUE : MALFORMED;
 }
 
-/* A bit for each service, 1 to 99. */
+/* Services: 1 to 99 are their own numbers, and those with letters have numbers behind them. */
+enum { SERVICE_1A = 100, SERVICE_1B, SERVICE_1D, SERVICE_1K, SERVICE_1N, SIZE_S, SIZE_M, SIZE_L, SIZE_XL };
+
+/* A bit for each service by its number. */
 struct services {
     uint64_t below_64, from_64;
 };
@@ -274,7 +277,15 @@ struct services {
 #define SERVICE(code) ((uint64_t)1 << (code))
 
 static const uint64_t cash_services = SERVICE(2) | SERVICE(4) | SERVICE(5) | SERVICE(41);
+static const uint64_t notices = SERVICE(34) | SERVICE(45) | SERVICE(46);
 static const uint64_t multi_piece = SERVICE(70 - 64);
+static const uint64_t sizes = SERVICE(SIZE_S - 64) | SERVICE(SIZE_M - 64) | SERVICE(SIZE_L - 64) | SERVICE(SIZE_XL - 64);
+
+static const uint8_t letters_behind_1[256] = {
+    ['A'] = SERVICE_1A, ['B'] = SERVICE_1B, ['D'] = SERVICE_1D, ['K'] = SERVICE_1K, ['N'] = SERVICE_1N,
+};
+
+static const uint8_t sizes_of_one_letter[256] = {['S'] = SIZE_S, ['M'] = SIZE_M, ['L'] = SIZE_L};
 
 /* Adds a service; false if it is there already. */
 static inline bool add_service(struct services *services, unsigned code)
@@ -286,6 +297,31 @@ static inline bool add_service(struct services *services, unsigned code)
     return fresh;
 }
 
+/* A number and the bytes that it was read from; 0 where there is no service. */
+struct service {
+    unsigned code;
+    size_t bytes;
+};
+
+static inline struct service read_size(uint8_t first, uint8_t second)
+{
+    if (first == 'X' && second == 'L')
+        return (struct service){SIZE_XL, 2};
+    return (struct service){sizes_of_one_letter[first], 1};
+}
+
+/* The service that is these two bytes, or the first of them. */
+static inline struct service read_service(uint8_t first, uint8_t second)
+{
+    if (!is(first, DIGIT))
+        return read_size(first, second);
+    if (first != '0' && is(second, DIGIT))
+        return (struct service){digit(first) * 10 + digit(second), 2};
+    if (first == '1' && letters_behind_1[second] != 0)
+        return (struct service){letters_behind_1[second], 2};
+    return (struct service){digit(first), 1};
+}
+
 static inline enum reading read_services(const uint8_t *field, struct services *services)
 {
     enum { WIDTH = 30 };
@@ -294,13 +330,12 @@ static inline enum reading read_services(const uint8_t *field, struct services *
     if (field[0] == ' ')
         return blank_or_malformed(field, WIDTH);
     for (;;) {
-        if (at == WIDTH || !is(field[at], DIGIT) || field[at] == '0')
+        if (at == WIDTH)
             return MALFORMED;
-        unsigned code = digit(field[at++]);
-        if (at < WIDTH && is(field[at], DIGIT))
-            code = code * 10 + digit(field[at++]);
-        if (!add_service(services, code))
+        struct service service = read_service(field[at], at + 1 < WIDTH ? field[at + 1] : ' ');
+        if (service.code == 0 || !add_service(services, service.code))
             return MALFORMED;
+        at += service.bytes;
         if (at == WIDTH || field[at] != '+')
             return blank(field + at, WIDTH - at) ? VALUE : MALFORMED;
         at++;
@@ -547,7 +582,7 @@ static inline struct answer judge(const uint8_t *record, const struct consignmen
         return (struct answer){221, 21};
     if (wrong_amount((services & SERVICE(7)) != 0, it->price_field, it->price))
         return (struct answer){222, 17};
-    if (more_than_one(services & (SERVICE(34) | SERVICE(45) | SERVICE(46))))
+    if (more_than_one(services & notices) || more_than_one(it->services.from_64 & sizes))
         return (struct answer){220, 18};
     if ((place = wrong_notice(it)) != 0)
         return (struct answer){223, place};

@@ -23,9 +23,9 @@ extern "C" {
 
 /* The version of this header, which CHANGELOG.md follows. The first number changes where a program has to be changed. */
 #define FUGANOREZI_VERSION_MAJOR 3
-#define FUGANOREZI_VERSION_MINOR 0
+#define FUGANOREZI_VERSION_MINOR 1
 #define FUGANOREZI_VERSION_PATCH 0
-#define FUGANOREZI_VERSION "3.0.0"
+#define FUGANOREZI_VERSION "3.1.0"
 
 /* Lengths in bytes, unless another unit is said. */
 enum fuganorezi_lengths {
@@ -283,7 +283,9 @@ fuganorezi_answer fuganorezi_weight_write(uint8_t *bytes, size_t length, uint64_
  * 212 (0)  the record's line end is wrong.
  *   1 (1)  field 1 is no right identifier.
  * 210      a field is malformed (the first such, 2 to 26). The postcode is five digits where the
- *          country is blank, and else text, or blank.
+ *          country is blank, and else text, or blank. Services are different codes joined by "+",
+ *          or blank: the numbers 1 to 99; 1A, 1B, 1D, 1K and 1N; the sizes S, M, L and XL. 1A is
+ *          not service 1, and no rule but 210 and 220 asks for a code with letters.
  *  27      the name is blank (4); the postcode is blank and the address domestic (5); the
  *          municipality is blank (7).
  *  21 (5)  the address is domestic and its postcode not in the table, with service 41.
@@ -295,7 +297,7 @@ fuganorezi_answer fuganorezi_weight_write(uint8_t *bytes, size_t length, uint64_
  *  11 (21) service 41 without a variable symbol.
  * 221 (21) a variable symbol without service 2, 4, 5 or 41.
  * 222 (17) with service 7 the price specified is blank or zero; or without it it is not blank.
- * 220 (18) more than one of the services 34, 45 and 46.
+ * 220 (18) more than one of the services 34, 45 and 46, or more than one of the sizes.
  * 223      service 34 or 45 without a telephone (12); 45 or 46 without an e-mail (13).
  *  72      service 70, pieces of one consignment: under a prefix other than BO, OV, DR and NP
  *          (18); with the main consignment (22), the serial (23) or the pieces (24) blank; with

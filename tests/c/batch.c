@@ -1,7 +1,7 @@
 /*
- * The open batch from C: the paper's example 15, the judged histories, each refusal, consignors, tables of postcodes, and
- * batches of full size. Buffers, bytes and tables end where memory that cannot be read begins, and each call has the stack
- * that the header says.
+ * The open batch from C: the paper's example 15, the judged histories, each refusal, consignors, sizes, tables of postcodes,
+ * and batches of full size. Buffers, bytes and tables end where memory that cannot be read begins, and each call has the
+ * stack that the header says.
  */
 #define _DEFAULT_SOURCE /* for fenced.h */
 #include "consignors.h"
@@ -300,6 +300,8 @@ static void ask_refusals(void)
     ask_refused_record(&b, 3, 5, "11001", 24);
     ask_refused_record(&b, 1, 15, " 0.000", 31);
     ask_refused_record(&b, 3, 15, " 0.000", 34);
+    ask_refused_record(&b, good_number(GOOD_PLAIN), 18, "1a", 210);
+    ask_refused_record(&b, good_number(GOOD_PLAIN), 18, "S+M", 220);
     ask_refused_record(&b, 1, 19, "0", 210);
     ask_refused("there already", 0, &b, ADD, record, RECORD, 2, 1);
     ask_refused("cancelled", 0, &b, AMEND, record, RECORD, 233, 0);
@@ -447,6 +449,43 @@ static void ask_consignors(void)
     ask_choice();
     ask_turn();
     ask_forced();
+}
+
+/* Sizes */
+
+static void put_posting_with(uint8_t record[GOOD_STEP], unsigned number, const char *services)
+{
+    put_record_of(record, OURS, number);
+    put_field(record, 18, services);
+}
+
+/* A journal may have one size in a record, and not two. */
+static void ask_forced_sizes(void)
+{
+    struct batch b = open_batch(GOOD_STEP, ADDITION);
+    uint8_t line[GOOD_STEP];
+    put_posting_with(line, 1, "XL");
+    force_addition(&b, line);
+    ask_accepted("one size in the journal", 0, &b, UNDO, NULL, 0);
+    put_posting_with(line, 1, "S+XL");
+    force_addition(&b, line);
+    ask_refused_all("two sizes in the journal", &b, FUGANOREZI_BATCH_DISAGREES);
+}
+
+/* One size can be amended to another, and no second comes to it. */
+static void ask_sizes(void)
+{
+    struct batch b = open_batch(2 * GOOD_STEP, 3 * ADDITION);
+    uint8_t record[GOOD_STEP];
+    put_posting_with(record, 1, "1+1A+S");
+    ask_accepted("a size", 0, &b, ADD, record, RECORD);
+    put_posting_with(record, 1, "1+1A+XL");
+    ask_accepted("another size", 0, &b, AMEND, record, RECORD);
+    put_posting_with(record, 1, "1+S+XL");
+    ask_refused("both sizes", 0, &b, AMEND, record, RECORD, FUGANOREZI_SERVICES_EXCLUDE, 18);
+    ask_refused("both sizes, and there already", 0, &b, ADD, record, RECORD, FUGANOREZI_SERVICES_EXCLUDE, 18);
+    expect_good_file("sizes", &b);
+    ask_forced_sizes();
 }
 
 /* Tables of postcodes */
@@ -666,6 +705,7 @@ int main(int count, char **words)
     ask_wrong_lengths();
     ask_refusals();
     ask_consignors();
+    ask_sizes();
     ask_tables();
     ask_vectors(words[1], words[2]);
     ask_full_file();

@@ -1,13 +1,14 @@
 /*
  * The record check from C: the judged vectors, our own records of each code and place, every length, a byte that no field
- * may hold at each place, a record that is to be posted, consignors, and tables of postcodes. What is asked about and the
- * table end where memory that cannot be read begins, and cannot be written during the call.
+ * may hold at each place, a record that is to be posted, services, consignors, and tables of postcodes. What is asked about
+ * and the table end where memory that cannot be read begins, and cannot be written during the call.
  */
 #define _DEFAULT_SOURCE /* for fenced.h */
 #include "consignors.h"
 #include "fenced.h"
 #include "fuganorezi.h"
 #include "good_file.h"
+#include "services.h"
 #include "tables.h"
 
 enum { RECORD = FUGANOREZI_RECORD_LENGTH, LONGEST = 65536, CONTROL_BYTE = 1 };
@@ -18,6 +19,8 @@ _Static_assert(offsetof(fuganorezi_record, consignor) == 8, "behind the place");
 _Static_assert(sizeof(fuganorezi_record) == 8 + sizeof(fuganorezi_consignor), "and nothing more");
 
 typedef fuganorezi_record record_check(const uint8_t *bytes, size_t length, const uint32_t *table, size_t entries);
+
+static record_check *const both_checks[] = {fuganorezi_record_check, fuganorezi_record_check_posting};
 
 static struct fenced memory;
 
@@ -93,15 +96,142 @@ static void ask_cancelled(void)
     ask("cancelled, to be posted", 0, fuganorezi_record_check_posting, record, RECORD, FUGANOREZI_MALFORMED, 19);
 }
 
+/* ---- services */
+
+/* A plain parcel with this field 18 and all that the services there ask for: nothing else can be wrong in it. */
+static void put_services(uint8_t *record, const uint8_t field[SERVICES_WIDTH], const struct services *found)
+{
+    const unsigned *times = found->times;
+    put_good_record(record, good_number(GOOD_PLAIN));
+    put_field(record, 12, "+420601123456");
+    put_field(record, 13, "jiri.kucera@priklad.cz");
+    if (times[2] + times[4] + times[5] + times[41] != 0) {
+        put_amount(record, 16, 1);
+        put_field(record, 21, "0000012345");
+    }
+    if (times[7] != 0)
+        put_amount(record, 17, 1);
+    if (times[70] != 0) {
+        memcpy(record + FUGANOREZI_START_22, record, FUGANOREZI_WIDTH_1);
+        put_field(record, 23, "01");
+        put_field(record, 24, "01");
+    }
+    memcpy(record + FUGANOREZI_START_18, field, SERVICES_WIDTH);
+}
+
+/* These are many, so they are quick: the record may be written, and whose it is is not asked. */
+static void ask_services(const char *what, unsigned long number, const uint8_t field[SERVICES_WIDTH])
+{
+    const struct services found = services_in(field);
+    const fuganorezi_answer expected = services_answer(&found);
+    uint8_t record[GOOD_STEP];
+    put_services(record, field, &found);
+    const uint8_t *there = put_before_fence(memory, record, RECORD);
+    for (size_t i = 0; i < 2; i++) {
+        fuganorezi_record answer = both_checks[i](there, RECORD, lent.entries, lent.count);
+        expect(what, number, answer.code, expected.code);
+        expect(what, number, answer.place, expected.place);
+    }
+}
+
+/* All pairs of bytes. Where a space is the second, one byte stands alone. */
+static void ask_byte_pairs(void)
+{
+    uint8_t field[SERVICES_WIDTH];
+    memset(field, ' ', sizeof field);
+    for (unsigned number = 0; number < 256 * 256; number++) {
+        field[0] = (uint8_t)(number / 256);
+        field[1] = (uint8_t)(number % 256);
+        ask_services("services of two bytes", number, field);
+    }
+}
+
+/* All texts of four bytes of which codes are made, or nearly. */
+static void ask_telling_bytes(void)
+{
+    static const char telling[] = "0179ABDKNSMLX+ a";
+    enum { LENGTH = 4, TELLING = sizeof telling - 1 };
+    uint8_t field[SERVICES_WIDTH];
+    memset(field, ' ', sizeof field);
+    for (unsigned number = 0; number < TELLING * TELLING * TELLING * TELLING; number++) {
+        unsigned rest = number;
+        for (unsigned at = 0; at < LENGTH; at++, rest /= TELLING)
+            field[at] = (uint8_t)telling[rest % TELLING];
+        ask_services("services of four bytes", number, field);
+    }
+}
+
+static void ask_joined(const char *what, unsigned long number, const char *const *codes, size_t count)
+{
+    uint8_t field[SERVICES_WIDTH];
+    size_t at = 0;
+    memset(field, ' ', sizeof field);
+    for (size_t i = 0; i < count; i++) {
+        if (i != 0)
+            field[at++] = '+';
+        memcpy(field + at, codes[i], strlen(codes[i]));
+        at += strlen(codes[i]);
+    }
+    ask_services(what, number, field);
+}
+
+/* Each code beside each. */
+static void ask_pairs_of_codes(void)
+{
+    for (unsigned one = 1; one <= LAST_CODE; one++)
+        for (unsigned other = 1; other <= LAST_CODE; other++) {
+            const char *const two[] = {service_codes[one], service_codes[other]};
+            ask_joined("two services", one * 1000 + other, two, 2);
+        }
+}
+
+/* Three of those with letters, of those that exclude each other, and of those that begin as 1A does. */
+static void ask_threes_of_codes(void)
+{
+    static const char *const telling[] = {"1", "11", "34", "45", "46", "1A", "1B", "1D", "1K", "1N", "S", "M", "L", "XL"};
+    enum { TELLING = sizeof telling / sizeof telling[0] };
+    for (unsigned i = 0; i < TELLING * TELLING * TELLING; i++) {
+        const char *const three[] = {telling[i / TELLING / TELLING], telling[i / TELLING % TELLING], telling[i % TELLING]};
+        ask_joined("three services", i, three, 3);
+    }
+}
+
+/* Filled to the last byte, and with each byte in each place. */
+static void ask_full_services(void)
+{
+    static const char *const full[] = {
+        "1A+1B+1D+1K+1N+10+11+12+13+S+1", "S+1+1A+1B+1D+1K+1N+10+11+12+13", "1+3+1B+1D+1K+1N+10+11+XL+12+1A",
+        "1+3+1A+1B+1D+1K+1N+10+11+12+XL",
+    };
+    uint8_t field[SERVICES_WIDTH];
+    for (size_t i = 0; i < sizeof full / sizeof full[0]; i++) {
+        expect("services fill the field", i, strlen(full[i]), SERVICES_WIDTH);
+        for (unsigned at = 0; at < SERVICES_WIDTH; at++)
+            for (unsigned byte = 0; byte < 256; byte++) {
+                memcpy(field, full[i], SERVICES_WIDTH);
+                field[at] = (uint8_t)byte;
+                ask_services("full services, another byte", (i * 100 + at) * 1000 + byte, field);
+            }
+    }
+}
+
+static void ask_all_services(void)
+{
+    ask_byte_pairs();
+    ask_telling_bytes();
+    ask_pairs_of_codes();
+    ask_threes_of_codes();
+    ask_full_services();
+}
+
 /* ---- consignors */
 
 static void expect_consignor(const char *what, unsigned long number, const uint8_t *record, size_t length,
                              enum whose expected)
 {
     const fuganorezi_consignor whose = consignors[expected].consignor;
-    static record_check *const checks[] = {fuganorezi_record_check, fuganorezi_record_check_posting};
     for (size_t i = 0; i < 2; i++) {
-        fuganorezi_record answer = checks[i](record, length, lent.entries, lent.count);
+        fuganorezi_record answer = both_checks[i](record, length, lent.entries, lent.count);
         expect(what, number, answer.consignor.type, whose.type);
         expect(what, number, answer.consignor.number, whose.number);
     }
@@ -186,6 +316,7 @@ int main(int count, char **words)
     ask_lengths();
     ask_each_place();
     ask_cancelled();
+    ask_all_services();
     ask_consignors();
     ask_tables();
     ask_each(words[1], words[2], UNDER_TABLE, 2, ask_judged);

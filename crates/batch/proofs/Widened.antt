@@ -13,12 +13,13 @@ use Rattle.text.specs.declared.Answer.{Answer}
 use Rattle.text.specs.Answers.{answer, accepted, wrongLength, orElse}
 use Rattle.record.specs.Rules.{toPost}
 use Rattle.record.proofs.BlankAbroad.{still-accepted}
+use Rattle.record.proofs.NumbersOnly as Numbers
 use Rattle.batch.specs.Actions.{Action, Addition, Amendment, Cancellation, kindOf, sized, entryLength, entriesOf}
 use Rattle.batch.specs.Records.{recordsOf}
 use Rattle.batch.specs.Rules.{Verdict, posted, Fit, actionRule, entryRule, ruleBehind, inTurnBehind, inTurn}
 use Rattle.batch.specs.Batch.{Batch, Call, State, made, fileLength, journalLength, Stands}
 use Rattle.batch.specs.History.{callOf, GoodBuffers, NothingStands}
-use Rattle.batch.specs.Widened.{Widens, Acceptable, blankAbroad}
+use Rattle.batch.specs.Widened.{Widens, Acceptable, numbersOnly, blankAbroad}
 use Rattle.batch.proofs.JournalWays.{or-both}
 use Rattle.batch.proofs.History.{performed}
 use Rattle.batch.proofs.Demand.{demand-3-under}
@@ -73,7 +74,17 @@ module _ (v w : Verdict) (wide : Widens v w) where
   pub no-other-237 : (b : Batch) (call : Call) → NothingStands w b call → NothingStands v b call
   no-other-237 b call k = record { lengths = k .lengths; other = k .other; nothing = λ s st. k .nothing s (still-stands b s st) }
 
--- ---- of the rules when a postcode abroad had to be blank: by the same postcodes that exist, old lists and old journals stay acceptable
+-- ---- of the rules when services were numbers only: by the same postcodes that exist, old lists and old journals stay acceptable
+pub numbers-wider : (known : Known) → Widens (numbersOnly known) (posted known)
+numbers-wider known rec = Numbers.still-accepted (toPost known) rec
+
+pub lists-of-numbers : (known : Known) (b : Batch) (xs : List Action) → GoodBuffers b → inTurn (numbersOnly known) (fileLength b) (journalLength b) xs ≡ true → Acceptable (posted known) b xs
+lists-of-numbers known = still-acceptable (numbersOnly known) (posted known) (numbers-wider known) (posted-fit known)
+
+pub journals-of-numbers : (known : Known) (b : Batch) (s : State) → Stands (numbersOnly known) b s → Stands (posted known) b s
+journals-of-numbers known = still-stands (numbersOnly known) (posted known) (numbers-wider known)
+
+-- ---- and when a postcode abroad had to be blank
 pub posted-wider : (known : Known) → Widens (blankAbroad known) (posted known)
 posted-wider known rec = still-accepted (toPost known) rec
 

@@ -8,7 +8,7 @@ use Rattle.text.specs.declared.Answer.{Answer}
 use Rattle.text.specs.Answers.{answer, accepted}
 use Rattle.text.specs.Bytes.{every, run}
 use Rattle.text.specs.Lists.{sameBytes}
-use Rattle.text.specs.Numbers.{numberAfter}
+use Rattle.text.specs.Numbers.{numberAfter, digits, decimalPlacesUpTo}
 use Rattle.text.specs.Texts.{bytes}
 use Rattle.psc.specs.Table.{holds}
 use Rattle.ident.specs.Identifier.{shapeOf, weighted, endsRight, rightId}
@@ -19,7 +19,8 @@ use Rattle.fields.specs.Frame.{framed}
 use Rattle.fields.specs.Dates.{daysIn, readDate, readTime}
 use Rattle.fields.specs.Texts.{filled, contains, isHost, isMail}
 use Rattle.fields.specs.Amounts.{isMoney}
-use Rattle.fields.specs.Services.{codesFrom, hasCode, withCode, added, readServices}
+use Rattle.fields.specs.Codes.{numbersFrom, codes, numberFor}
+use Rattle.fields.specs.Services.{words, hasCode, withCode, added, readBy, howMany, severalSizes}
 use Rattle.fields.specs.Examples.{inField}
 use Rattle.text.specs.Answers.{orElse}
 use Rattle.record.specs.Rules.{askedOf, givenOf, travelOf, table, recordAnswer}
@@ -103,5 +104,5 @@ pub record Shown : Type 0 where
   pub read : actionsIn (entriesOf left) ≡ some left
 
 pub shown : Shown
-unfolding holds bytes inField laidOut recordOf parcel sentTo first renamed second third fourth claims left consignorIn anotherIn every run numberAfter sameBytes shapeOf weighted endsRight rightId partsOf fieldOf framed daysIn readDate readTime filled contains isHost isMail isMoney codesFrom hasCode withCode added readServices askedOf givenOf travelOf table recordAnswer kept orElse anyRecord actionRule entryRule made rules firstEntry entriesIn Option·elim
+unfolding holds bytes inField laidOut recordOf parcel sentTo first renamed second third fourth claims left consignorIn anotherIn every run numberAfter sameBytes shapeOf weighted endsRight rightId partsOf fieldOf framed daysIn readDate readTime filled contains isHost isMail isMoney digits decimalPlacesUpTo numbersFrom codes numberFor words hasCode withCode added readBy howMany severalSizes askedOf givenOf travelOf table recordAnswer kept orElse anyRecord actionRule entryRule made rules firstEntry entriesIn Option·elim
 shown = record { answers = refl; stands = refl; records = refl; counts = refl; read = refl }

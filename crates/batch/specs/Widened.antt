@@ -10,6 +10,7 @@ use Rattle.text.specs.Answers.{accepted}
 use Rattle.psc.specs.Table.{Known}
 use Rattle.record.specs.Rules.{toPost}
 use Rattle.record.specs.BlankAbroad.{answerBlankAbroad}
+use Rattle.record.specs.NumbersOnly.{answerNumbersOnly}
 use Rattle.batch.specs.Actions.{Action}
 use Rattle.batch.specs.Rules.{Verdict, inTurn}
 use Rattle.batch.specs.Batch.{Batch, Open, state, made, fileLength, journalLength, CalledBy}
@@ -28,6 +29,10 @@ pub record Acceptable (w : Verdict) (b : Batch) (xs : List Action) : Type 0 wher
   pub leaves : (r : Answer) (answers : List Answer) (e : Batch) → RunOfCalls (CalledBy w) b (Open ∷ map callOf xs) (r ∷ answers) e
       → e ≡ made (fileLength b) (journalLength b) (state xs)
 
--- ---- the record's verdict when a postcode abroad had to be blank
+-- ---- the record's verdict when services were numbers only
+abbrev pub numbersOnly : Known → Verdict
+numbersOnly known rec = answerNumbersOnly (toPost known) rec
+
+-- ---- and when a postcode abroad had to be blank
 abbrev pub blankAbroad : Known → Verdict
 blankAbroad known rec = answerBlankAbroad (toPost known) rec

@@ -10,7 +10,7 @@ use lib.Dec.{eqb}
 use Rattle.text.specs.Answers.{orElse}
 use Rattle.text.specs.Bytes.{every, run}
 use Rattle.text.specs.Lists.{sameBytes}
-use Rattle.text.specs.Numbers.{numberAfter}
+use Rattle.text.specs.Numbers.{numberAfter, digits, decimalPlacesUpTo}
 use Rattle.text.specs.Texts.{bytes, allHold}
 use Rattle.psc.specs.Table.{risesFrom, rightTable, holds}
 use Rattle.ident.specs.Identifier.{shapeOf, weighted, endsRight, rightId}
@@ -21,7 +21,8 @@ use Rattle.fields.specs.Frame.{framed}
 use Rattle.fields.specs.Dates.{daysIn, readDate, readTime}
 use Rattle.fields.specs.Texts.{filled, contains, isHost, isMail}
 use Rattle.fields.specs.Amounts.{isMoney}
-use Rattle.fields.specs.Services.{codesFrom, hasCode, withCode, added, readServices}
+use Rattle.fields.specs.Codes.{numbersFrom, codes, numberFor}
+use Rattle.fields.specs.Services.{words, hasCode, withCode, added, readBy, howMany, severalSizes}
 use Rattle.fields.specs.ServiceTexts.{allDifferent}
 use Rattle.fields.specs.Examples.{inField}
 use Rattle.record.specs.Rules.{askedOf, givenOf, travelOf, table, recordAnswer}
@@ -59,5 +60,5 @@ claims =
     ∷ []
 
 pub shown : allHold claims ≡ true
-unfolding risesFrom rightTable holds bytes allHold every run numberAfter sameBytes shapeOf weighted endsRight rightId partsOf fieldOf framed daysIn readDate readTime filled contains isHost isMail isMoney codesFrom hasCode withCode added readServices allDifferent askedOf givenOf travelOf table recordAnswer inField laidOut recordOf sentTo consignorIn anotherIn firstPiece secondPiece orElse repeats lineAnswer brought totalsOver breakFrom fileAnswer fileCheck upTo kept inSet setUnder samePieces noneMissing offence placeOf firstThat earliest closingOf closingAnswer piece totalling answers claims
+unfolding risesFrom rightTable holds bytes allHold every run numberAfter sameBytes shapeOf weighted endsRight rightId partsOf fieldOf framed daysIn readDate readTime filled contains isHost isMail isMoney digits decimalPlacesUpTo numbersFrom codes numberFor words hasCode withCode added readBy howMany severalSizes allDifferent askedOf givenOf travelOf table recordAnswer inField laidOut recordOf sentTo consignorIn anotherIn firstPiece secondPiece orElse repeats lineAnswer brought totalsOver breakFrom fileAnswer fileCheck upTo kept inSet setUnder samePieces noneMissing offence placeOf firstThat earliest closingOf closingAnswer piece totalling answers claims
 shown = refl

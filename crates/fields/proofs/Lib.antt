@@ -5,6 +5,7 @@ pub mod WordText
 pub mod TextWays
 pub mod PostcodeWays
 pub mod AmountWays
+pub mod CodeWays
 pub mod ServiceWays
 pub mod ByteLaws
 pub mod FrameLaws
@@ -17,4 +18,6 @@ pub mod PostcodeLaws
 pub mod WeightLaws
 pub mod MoneyLaws
 pub mod ServicesLaws
+pub mod WiderCodes
+pub mod HowMany
 pub mod OneOutcome

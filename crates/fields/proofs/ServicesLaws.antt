@@ -1,25 +1,26 @@
--- Services, field 18: which texts read as a set of codes, and which codes such a set has.
+-- Services, field 18: which texts read as a set of codes, and which codes such a set has, by any table of codes whose texts can be told apart.
 -- Assumes nothing.
-use Prim.Native.Nat.{ℕ, zero, suc, _+_, _-_, _*_, _/_, _%_, _≤_}
+use Prim.Native.Nat.{ℕ, zero, suc, _+_, _-_, _≤_}
 use mathlib.Core.Path.{_≡_, refl, sym, ap, _∙_}
 use mathlib.Core.Bool.{Bool, true, false, cond, not, _&&_, _||_, and-eq-true-iff, and-false, and-true, or-true, or-false}
-use mathlib.Core.List.{List, [], _∷_, _++_, append-assoc}
+use mathlib.Core.List.{List, [], _∷_, _++_, map, append-assoc}
 use mathlib.Core.Logic.{_↔_}
 use native.Mathlib.Omega.{arith}
-use borrow.Author.Tests.{ltb-true, ltb-false, leb-true, le-leb, eqb-true, eqb-false, eq-eqb, ne-eqb, not-true}
-use lib.Dec.{eqb, leb, ltb}
-use lib.ListN.{length, replicate, length-append, length-replicate}
-use lib.Seq.{append-snoc}
-use Rattle.text.specs.Bytes.{isDigit, every, isBlank}
-use Rattle.text.specs.Numbers.{digits, decimal}
-use Rattle.text.proofs.Booleans.{clash}
-use Rattle.text.proofs.Numbers.{digit-bounds, is-digit}
-use Rattle.text.proofs.Decimals.{decimal-places-one, decimal-places-are}
+use borrow.Author.Tests.{ltb-true, ltb-false, eqb-true, eqb-false, eq-eqb, ne-eqb, not-true}
+use lib.Dec.{eqb, ltb}
+use lib.ListN.{length, replicate, length-append, length-replicate, length-map}
+use Rattle.text.specs.Bytes.{every, isBlank}
+use Rattle.text.specs.Lists.{sameBytes}
+use Rattle.text.specs.Numbers.{digits, decimalPlacesUpTo}
+use Rattle.text.proofs.Booleans.{clash, both}
+use Rattle.text.proofs.Lists.{same-refl, same-exactly}
 use Rattle.fields.specs.declared.services.Services.{Services}
+use Rattle.fields.specs.declared.services.ServicesReading.{ServicesReading}
 use Rattle.fields.specs.declared.services.ServicesReading.the-variants.{Absent, Value, Malformed}
 use Rattle.fields.specs.Texts.{contains}
-use Rattle.fields.specs.Services.{withDigit, codesFrom, codesOf, isCode, bit, hasCode, noServices, withCode, added, readServices}
-use Rattle.fields.specs.ServiceTexts.{servicesText, allDifferent, withCodes, servicesOf, Writes}
+use Rattle.fields.specs.Codes.{Code, numbersFrom, codes, numberFor, textFor, hasNumber, hasText, isCode, inWord, isWord, toldApart}
+use Rattle.fields.specs.Services.{inFront, words, numbersIn, bit, hasCode, noServices, withCode, added, readBy, malformedServices}
+use Rattle.fields.specs.ServiceTexts.{plusJoined, servicesText, allDifferent, withCodes, servicesOf, Writes, GoodServices, blank, written}
 use Rattle.fields.proofs.Bits.{bit-with, bit-none}
 use Rattle.fields.proofs.ByteLaws.{spaces-blank, blank-exactly}
 
@@ -120,215 +121,275 @@ added-is s (c ∷ cs) = go (isCode c) (hasCode s c) refl (λ new. added-is (with
     go true true e rest = rw (never (every isCode cs) (not (contains c cs) && allDifferent cs))
     go true false e rest = rest e ∙ rw (order (every isCode cs) (allDifferent cs) (not (contains c cs)) (apart s cs))
 
--- ---- the codes that a text writes
--- the digits of one code
-module _ (c : ℕ) (low : 1 ≤ c) where
-  one-digit : c ≤ 9 → decimal c ≡ (48 + c) ∷ []
-  unfolding digits
-  one-digit h = let e : c % 10 ≡ c = omega arith in rw (decimal-places-one 19 c (omega arith), e)
-
-  two-digits : (d : ℕ) → c ≤ 9 → d ≤ 9 → decimal (c * 10 + d) ≡ (48 + c) ∷ (48 + d) ∷ []
-  unfolding digits
-  two-digits d h l =
-      let e₁ : (c * 10 + d) / 10 % 10 ≡ c = omega arith in
-      let e₂ : (c * 10 + d) % 10 ≡ d = omega arith in
-      rw (decimal-places-are 19 1 (c * 10 + d) (omega arith) (omega arith) (λ s. omega arith), e₁, e₂)
-
--- one more digit
-digit-on : (c d : ℕ) (f : List ℕ) → c ≤ 9 → d ≤ 9 → 1 ≤ c + d → codesFrom c ((48 + d) ∷ f) ≡ codesFrom (c * 10 + d) f
-unfolding codesFrom
-digit-on c d f h l p =
-    let e : 48 + d - 48 ≡ d = omega arith in
-    rw (is-digit (48 + d) (omega arith) (omega arith), e, le-leb c 9 h, ne-eqb (c + d) 0 (λ z. omega arith))
-
-code-reads : (c : ℕ) (f : List ℕ) → isCode c ≡ true → codesFrom 0 (decimal c ++ f) ≡ codesFrom c f
-code-reads c f good = go (ltb c 10) refl
-  where
-    p : (1 ≤ c) × (c ≤ 99)
-    p = let q = and-eq-true-iff (leb 1 c) (leb c 99) .0 good in (leb-true 1 c (q .0), leb-true c 99 (q .1))
-
-    go : (t : Bool) → ltb c 10 ≡ t → codesFrom 0 (decimal c ++ f) ≡ codesFrom c f
-    go true e =
-        let small = ltb-true c 10 e in
-        let same : 0 * 10 + c ≡ c = omega arith in
-        rw (one-digit c (p .0) (omega arith)) (digit-on 0 c f (omega arith) (omega arith) (omega (arith, p)) ∙ rw same)
-    go false e =
-        let large = ltb-false c 10 e in
-        let same : c / 10 * 10 + c % 10 ≡ c = omega arith in
-        let first : 0 * 10 + c / 10 ≡ c / 10 = omega arith in
-        ap (λ (n : ℕ). codesFrom 0 (decimal n ++ f)) (sym same)
-        ∙ rw (two-digits (c / 10) (omega arith) (c % 10) (omega (arith, p)) (omega arith))
-        (digit-on 0 (c / 10) ((48 + c % 10) ∷ f) (omega arith) (omega (arith, p)) (omega arith)
-        ∙ rw first (digit-on (c / 10) (c % 10) f (omega (arith, p)) (omega arith) (omega arith) ∙ rw same))
-
-spaces-end : (c k : ℕ) → codesFrom c (replicate k 32) ≡ c ∷ []
-unfolding codesFrom every
-spaces-end c zero = refl
-spaces-end c (suc k) = rw (spaces-blank k)
-
--- servicesText codes are read back
-written-codes : (c : ℕ) (cs : List ℕ) (k : ℕ) → every isCode (c ∷ cs) ≡ true → codesOf (servicesText (c ∷ cs) ++ replicate k 32) ≡ c ∷ cs
-unfolding servicesText every codesFrom
-written-codes c [] k good = code-reads c (replicate k 32) (and-eq-true-iff (isCode c) true .0 good .0) ∙ spaces-end c k
-written-codes c (d ∷ cs) k good =
-    let p = and-eq-true-iff (isCode c) (every isCode (d ∷ cs)) .0 good in
-    ap (λ (f : List ℕ). codesFrom 0 f) (append-assoc (decimal c) (43 ∷ servicesText (d ∷ cs)) (replicate k 32))
-    ∙ code-reads c (43 ∷ (servicesText (d ∷ cs) ++ replicate k 32)) (p .0)
-    ∙ ap (λ (r : List ℕ). c ∷ r) (written-codes d cs k (p .1))
-
--- ---- a text whose codes are good is the writing of them
--- no code comes of a leading zero or a third digit
-never-code : (f : List ℕ) → every isCode (codesFrom 100 f) ≡ false
-unfolding codesFrom every
-never-code [] = refl
-never-code (b ∷ f) = go (isDigit b) (eqb b 43) (isBlank (b ∷ f)) (never-code f)
-  where
-    go : (d p s : Bool) → every isCode (codesFrom 100 f) ≡ false → every isCode (cond d (codesFrom 100 f) (cond p (100 ∷ codesFrom 0 f) (cond s 100 100 ∷ []))) ≡ false
-    go true p s rest = rest
-    go false true s rest = refl
-    go false false true rest = refl
-    go false false false rest = refl
-
-some-code : (c : ℕ) (f : List ℕ) → 1 ≤ length (codesFrom c f)
-unfolding codesFrom
-some-code c [] = omega arith
-some-code c (b ∷ f) = go (isDigit b) (eqb b 43) (some-code (withDigit c (b - 48)) f)
-  where
-    go : (d p : Bool) → 1 ≤ length (codesFrom (withDigit c (b - 48)) f) → 1 ≤ length (cond d (codesFrom (withDigit c (b - 48)) f) (cond p (c ∷ codesFrom 0 f) (cond (isBlank (b ∷ f)) c 100 ∷ [])))
-    go true p rest = rest
-    go false true rest = omega arith
-    go false false rest = omega arith
-
-written-more : (c : ℕ) (cs : List ℕ) → 1 ≤ length cs → servicesText (c ∷ cs) ≡ decimal c ++ 43 ∷ servicesText cs
-unfolding servicesText
-written-more c [] h = absurd (omega arith)
-written-more c (d ∷ cs) h = refl
-
--- the digits that were read of a code, with 0 for none
-abbrev soFar : ℕ → List ℕ
-soFar c = cond (eqb c 0) [] (decimal c)
-
-so-far : (c : ℕ) → isCode c ≡ true → soFar c ≡ decimal c
-so-far c good =
-    let p = and-eq-true-iff (leb 1 c) (leb c 99) .0 good in
-    rw (ne-eqb c 0 (λ e. omega (arith, leb-true 1 c (p .0))))
-
-so-far-on : (c d : ℕ) → c ≤ 9 → d ≤ 9 → 1 ≤ c + d → soFar (c * 10 + d) ≡ soFar c ++ (48 + d) ∷ []
-so-far-on zero d h l p =
-    let e : 0 * 10 + d ≡ d = omega arith in
-    rw (e, ne-eqb d 0 (λ z. omega arith)) (one-digit d (omega arith) l)
-so-far-on (suc c) d h l p =
-    rw (ne-eqb (suc c * 10 + d) 0 (λ z. omega arith), ne-eqb (suc c) 0 (λ z. omega arith), one-digit (suc c) (omega arith) h) (two-digits (suc c) (omega arith) d h l)
-
--- the digits so far and the rest f are the writing of the codes that come of them
-abbrev Back : ℕ → List ℕ → Type 0
-Back c f = every isCode (codesFrom c f) ≡ true → (k : ℕ) × (soFar c ++ f ≡ servicesText (codesFrom c f) ++ replicate k 32)
-
-both-codes : (c : ℕ) (cs : List ℕ) → every isCode (c ∷ cs) ≡ true → (isCode c ≡ true) × (every isCode cs ≡ true)
-unfolding every
-both-codes c cs good = and-eq-true-iff (isCode c) (every isCode cs) .0 good
-
-module _ (c b : ℕ) (f : List ℕ) where
-  back-digit : isDigit b ≡ true → ((n : ℕ) → Back n f) → Back c (b ∷ f)
-  unfolding codesFrom
-  back-digit digit rest good = go (leb c 9 && not (eqb (c + (b - 48)) 0)) refl (rw digit at good)
-    where
-      go : (t : Bool) → (leb c 9 && not (eqb (c + (b - 48)) 0)) ≡ t → every isCode (codesFrom (withDigit c (b - 48)) f) ≡ true → (k : ℕ) × (soFar c ++ b ∷ f ≡ servicesText (codesFrom c (b ∷ f)) ++ replicate k 32)
-      go true e h =
-          let p = and-eq-true-iff (leb c 9) (not (eqb (c + (b - 48)) 0)) .0 e in
-          let small = leb-true c 9 (p .0) in
-          let more = eqb-false (c + (b - 48)) 0 (not-true (eqb (c + (b - 48)) 0) (p .1)) in
-          let bounds = digit-bounds b digit in
-          let same : 48 + (b - 48) ≡ b = omega arith in
-          let on : soFar (c * 10 + (b - 48)) ≡ soFar c ++ b ∷ [] = so-far-on c (b - 48) small (omega arith) (omega arith) ∙ rw same in
-          let r = rest (c * 10 + (b - 48)) (rw e at h) in
-          (r .0, rw (digit, e) (sym (append-snoc (soFar c) b f) ∙ (rw on at (r .1))))
-      go false e h = absurd (clash (rw e at h) (never-code f))
-
-  back-plus : b ≡ 43 → Back 0 f → Back c (b ∷ f)
-  unfolding codesFrom
-  back-plus plus rest good =
-      let p = both-codes c (codesFrom 0 f) (rw plus at good) in
-      let r = rest (p .1) in (
-        r .0,
-        rw (plus, so-far c (p .0), written-more c (codesFrom 0 f) (some-code 0 f))
-            (ap (λ (x : List ℕ). decimal c ++ 43 ∷ x) (r .1) ∙ sym (append-assoc (decimal c) (43 ∷ servicesText (codesFrom 0 f)) (replicate (r .0) 32))),
-      )
-
-  back-other : isDigit b ≡ false → eqb b 43 ≡ false → Back c (b ∷ f)
-  unfolding codesFrom servicesText
-  back-other d p good = go (isBlank (b ∷ f)) refl (both-codes (cond (isBlank (b ∷ f)) c 100) [] (rw (d, p) at good) .0)
-    where
-      go : (t : Bool) → isBlank (b ∷ f) ≡ t → isCode (cond t c 100) ≡ true → (k : ℕ) × (soFar c ++ b ∷ f ≡ servicesText (codesFrom c (b ∷ f)) ++ replicate k 32)
-      go true e code = (length (b ∷ f), rw (d, p, e, so-far c code) (ap (λ (x : List ℕ). decimal c ++ x) (blank-exactly (length (b ∷ f)) (b ∷ f) .0 (refl, e))))
-      go false e code = let z : _≡_ {A = ℕ} 0 1 = cc in absurd (omega arith)
-
-codes-written : (c : ℕ) (f : List ℕ) → Back c f
-unfolding codesFrom servicesText every
-codes-written c [] good = (0, rw (so-far c (and-eq-true-iff (isCode c) true .0 good .0)))
-codes-written c (b ∷ f) good = go (isDigit b) (eqb b 43) refl refl (λ n. codes-written n f) good
-  where
-    go : (d p : Bool) → isDigit b ≡ d → eqb b 43 ≡ p → ((n : ℕ) → Back n f) → Back c (b ∷ f)
-    go true p ed ep rest = back-digit c b f ed rest
-    go false true ed ep rest = back-plus c b f (eqb-true b 43 ep) (rest 0)
-    go false false ed ep rest = back-other c b f ed ep
-
--- ---- reading
 value-of : (a b : Services) → Value a ≡ Value b → a ≡ b
 value-of a b e = cc
 
-read-writes : (f : List ℕ) (s : Services) → readServices f ≡ Value s → (cs : List ℕ) × Writes f s cs
-unfolding readServices
-read-writes f s r = go (eqb (length f) 30) (isBlank f) (addable noServices (codesOf f)) refl refl (rw (added-is noServices (codesOf f)) at r)
-  where
-    go : (l b a : Bool) → eqb (length f) 30 ≡ l → addable noServices (codesOf f) ≡ a
-        → cond l (cond b Absent (cond a (Value (servicesOf (codesOf f))) Malformed)) Malformed ≡ Value s → (cs : List ℕ) × Writes f s cs
-    go false b a el ea r = let z : _≡_ {A = ℕ} 0 1 = cc in absurd (omega arith)
-    go true true a el ea r = let z : _≡_ {A = ℕ} 0 1 = cc in absurd (omega arith)
-    go true false false el ea r = let z : _≡_ {A = ℕ} 0 1 = cc in absurd (omega arith)
-    go true false true el ea r =
-        let long = eqb-true (length f) 30 el in
-        let p = and-eq-true-iff (every isCode (codesOf f)) (allDifferent (codesOf f) && apart noServices (codesOf f)) .0 ea in
-        let q = and-eq-true-iff (allDifferent (codesOf f)) (apart noServices (codesOf f)) .0 (p .1) in
-        let back = codes-written 0 f (p .0) in
-        let size : length (servicesText (codesOf f)) + back .0 ≡ 30 = sym (length-append (servicesText (codesOf f)) (replicate (back .0) 32) ∙ ap (λ (n : ℕ). length (servicesText (codesOf f)) + n) (length-replicate (back .0) 32)) ∙ ap length (sym (back .1)) ∙ long in
-        let rest : back .0 ≡ 30 - length (servicesText (codesOf f)) = omega arith in (
-          codesOf f,
-          record {
-            some = some-code 0 f;
-            codes = p .0;
-            different = q .0;
-            long = long;
-            text = rw rest at (back .1);
-            set = sym (value-of (servicesOf (codesOf f)) s r);
-          },
-        )
+-- ---- codes that can be told apart
+record Row (c : Code) (cs : List Code) : Type 0 where
+  code : isCode (c .number) ≡ true
+  word : isWord (c .text) ≡ true
+  numberOnce : hasNumber cs (c .number) ≡ false
+  textOnce : hasText cs (c .text) ≡ false
+  rest : toldApart cs ≡ true
 
-zero-no-code : every isCode (0 ∷ []) ≡ true → _≡_ {A = ℕ} 0 1
+row : (c : Code) (cs : List Code) → toldApart (c ∷ cs) ≡ true → Row c cs
+unfolding toldApart
+row c cs h =
+    let p = both _ (toldApart cs) h in
+    let q = both _ (not (hasText cs (c .text))) (p .0) in
+    let r = both _ (not (hasNumber cs (c .number))) (q .0) in
+    let t = both (isCode (c .number)) (isWord (c .text)) (r .0) in
+    record { code = t .0; word = t .1; numberOnce = not-true _ (r .1); textOnce = not-true _ (q .1); rest = p .1 }
+
+text-there : (table : List Code) (n : ℕ) → hasNumber table n ≡ true → hasText table (textFor table n) ≡ true
+unfolding hasNumber hasText textFor
+text-there [] n h = h
+text-there (c ∷ cs) n h = go (eqb (c .number) n) (text-there cs n) h
+  where
+    go : (t : Bool) → (hasNumber cs n ≡ true → hasText cs (textFor cs n) ≡ true) → (t || hasNumber cs n) ≡ true
+        → (sameBytes (c .text) (cond t (c .text) (textFor cs n)) || hasText cs (cond t (c .text) (textFor cs n))) ≡ true
+    go true rest h = rw (same-refl (c .text))
+    go false rest h = rw (rest h) (or-true (sameBytes (c .text) (textFor cs n)))
+
+-- what is written for a number is read as that number
+record Told (table : List Code) (n : ℕ) : Type 0 where
+  code : isCode n ≡ true
+  word : isWord (textFor table n) ≡ true
+  number : numberFor table (textFor table n) ≡ n
+
+told : (table : List Code) (n : ℕ) → toldApart table ≡ true → hasNumber table n ≡ true → Told table n
+unfolding hasNumber textFor numberFor
+told [] n a h = absurd (clash h refl)
+told (c ∷ cs) n a h = let r = row c cs a in go r (eqb (c .number) n) refl (λ g. told cs n (r .rest) g) h
+  where
+    go : Row c cs → (t : Bool) → eqb (c .number) n ≡ t → (hasNumber cs n ≡ true → Told cs n) → (t || hasNumber cs n) ≡ true → Told (c ∷ cs) n
+    go r true e rest h =
+        let same = eqb-true (c .number) n e in
+        record { code = ap isCode (sym same) ∙ r .code; word = rw e (r .word); number = rw (e, same-refl (c .text)) same }
+    go r false e rest h =
+        let t = rest h in
+        let other : sameBytes (c .text) (textFor cs n) ≡ false = differ (sameBytes (c .text) (textFor cs n)) refl in
+        record { code = t .code; word = rw e (t .word); number = rw (e, other) (t .number) }
+      where
+        differ : (t : Bool) → sameBytes (c .text) (textFor cs n) ≡ t → t ≡ false
+        differ true q = absurd (clash (ap (hasText cs) (same-exactly (c .text) (textFor cs n) .0 q) ∙ text-there cs n h) (r .textOnce))
+        differ false q = refl
+
+-- and what is read as a number is written for it
+record Found (table : List Code) (t : List ℕ) : Type 0 where
+  there : hasNumber table (numberFor table t) ≡ true
+  text : textFor table (numberFor table t) ≡ t
+
+found : (table : List Code) (t : List ℕ) → toldApart table ≡ true → isCode (numberFor table t) ≡ true → Found table t
+unfolding numberFor hasNumber textFor
+found [] t a h = absurd (clash h refl)
+found (c ∷ cs) t a h = let r = row c cs a in go r (sameBytes (c .text) t) refl (λ g. found cs t (r .rest) g) h
+  where
+    go : Row c cs → (q : Bool) → sameBytes (c .text) t ≡ q → (isCode (numberFor cs t) ≡ true → Found cs t) → isCode (cond q (c .number) (numberFor cs t)) ≡ true → Found (c ∷ cs) t
+    go r true e rest h =
+        let self = eq-eqb (c .number) (c .number) refl in
+        record { there = rw (e, self); text = rw (e, self) (same-exactly (c .text) t .0 e) }
+    go r false e rest h =
+        let f = rest h in
+        let other : eqb (c .number) (numberFor cs t) ≡ false = ne-eqb (c .number) (numberFor cs t) (λ q. clash (ap (hasNumber cs) q ∙ f .there) (r .numberOnce)) in
+        record { there = rw (e, f .there) (or-true (eqb (c .number) (numberFor cs t))); text = rw (e, other) (f .text) }
+
+-- ---- the words of a text
+some-word : (f : List ℕ) → 1 ≤ length (words f)
+unfolding words
+some-word [] = omega arith
+some-word (b ∷ f) = go (isBlank (b ∷ f)) (eqb b 43) (words f)
+  where
+    go : (s p : Bool) (ws : List (List ℕ)) → 1 ≤ length (cond s ([] ∷ []) (cond p ([] ∷ ws) (inFront b ws)))
+    go true p ws = omega arith
+    go false true ws = omega arith
+    go false false [] = omega arith
+    go false false (w ∷ ws) = omega arith
+
+joined-plus : (ws : List (List ℕ)) → 1 ≤ length ws → plusJoined ([] ∷ ws) ≡ 43 ∷ plusJoined ws
+unfolding plusJoined
+joined-plus [] h = absurd (omega arith)
+joined-plus (w ∷ ws) h = refl
+
+joined-byte : (b : ℕ) (ws : List (List ℕ)) → plusJoined (inFront b ws) ≡ b ∷ plusJoined ws
+unfolding plusJoined
+joined-byte b [] = refl
+joined-byte b (w ∷ []) = refl
+joined-byte b (w ∷ v ∷ ws) = refl
+
+-- joined again they are the text, but for spaces behind
+joined-again : (f : List ℕ) → (k : ℕ) × (f ≡ plusJoined (words f) ++ replicate k 32)
+unfolding words plusJoined
+joined-again [] = (0, refl)
+joined-again (b ∷ f) = go (isBlank (b ∷ f)) refl (eqb b 43) refl (joined-again f)
+  where
+    go : (s : Bool) → isBlank (b ∷ f) ≡ s → (p : Bool) → eqb b 43 ≡ p → (k : ℕ) × (f ≡ plusJoined (words f) ++ replicate k 32)
+        → (k : ℕ) × (b ∷ f ≡ plusJoined (cond s ([] ∷ []) (cond p ([] ∷ words f) (inFront b (words f)))) ++ replicate k 32)
+    go true e p ep r = (length (b ∷ f), blank-exactly (length (b ∷ f)) (b ∷ f) .0 (refl, e))
+    go false e true ep r = (r .0, rw (joined-plus (words f) (some-word f), eqb-true b 43 ep) (ap (λ (x : List ℕ). 43 ∷ x) (r .1)))
+    go false e false ep r = (r .0, rw (joined-byte b (words f)) (ap (λ (x : List ℕ). b ∷ x) (r .1)))
+
+-- words that are joined come apart again
+module _ (b : ℕ) (f : List ℕ) where
+  word-byte : inWord b ≡ true → words (b ∷ f) ≡ inFront b (words f)
+  unfolding words every
+  word-byte h = let p = both (not (eqb b 32)) (not (eqb b 43)) h in rw (not-true (eqb b 32) (p .0), not-true (eqb b 43) (p .1))
+
+word-plus : (w f : List ℕ) → every inWord w ≡ true → words (w ++ 43 ∷ f) ≡ w ∷ words f
+unfolding words every
+word-plus [] f h = refl
+word-plus (b ∷ w) f h = let p = both (inWord b) (every inWord w) h in word-byte b (w ++ 43 ∷ f) (p .0) ∙ ap (inFront b) (word-plus w f (p .1))
+
+blank-words : (f : List ℕ) → isBlank f ≡ true → words f ≡ [] ∷ []
+unfolding words
+blank-words [] h = refl
+blank-words (b ∷ f) h = rw h
+
+word-spaces : (w : List ℕ) (k : ℕ) → every inWord w ≡ true → words (w ++ replicate k 32) ≡ w ∷ []
 unfolding every
-zero-no-code e = cc
+word-spaces [] k h = blank-words (replicate k 32) (spaces-blank k)
+word-spaces (b ∷ w) k h = let p = both (inWord b) (every inWord w) h in word-byte b (w ++ replicate k 32) (p .0) ∙ ap (inFront b) (word-spaces w k (p .1))
 
--- the codes are those that the text says, in its order: no other list has this writing
-pub codes-are : (f : List ℕ) (s : Services) (cs : List ℕ) → Writes f s cs → codesOf f ≡ cs
-codes-are f s [] w = absurd (omega (arith, w .some))
-codes-are f s (c ∷ cs) w = ap codesOf (w .text) ∙ written-codes c cs (30 - length (servicesText (c ∷ cs))) (w .codes)
+word-bytes : (w : List ℕ) → isWord w ≡ true → every inWord w ≡ true
+unfolding every
+word-bytes [] h = refl
+word-bytes (b ∷ w) h = h
 
-writes-read : (f : List ℕ) (s : Services) (cs : List ℕ) → Writes f s cs → readServices f ≡ Value s
-unfolding readServices
-writes-read f s cs w = go (isBlank f) refl (codes-are f s cs w)
+module _ (table : List Code) (apart-codes : toldApart table ≡ true) where
+  -- ---- what is written is read, and what is read is what is written
+  text-bytes : (n : ℕ) → hasNumber table n ≡ true → every inWord (textFor table n) ≡ true
+  text-bytes n h = word-bytes (textFor table n) (told table n apart-codes h .word)
+
+  written-words : (n : ℕ) (ns : List ℕ) (k : ℕ) → every (hasNumber table) (n ∷ ns) ≡ true → words (servicesText table (n ∷ ns) ++ replicate k 32) ≡ map (textFor table) (n ∷ ns)
+  unfolding plusJoined every
+  written-words n [] k h = word-spaces (textFor table n) k (text-bytes n (both (hasNumber table n) true h .0))
+  written-words n (m ∷ ns) k h =
+      let p = both (hasNumber table n) (every (hasNumber table) (m ∷ ns)) h in
+      ap words (append-assoc (textFor table n) (43 ∷ servicesText table (m ∷ ns)) (replicate k 32))
+      ∙ word-plus (textFor table n) (servicesText table (m ∷ ns) ++ replicate k 32) (text-bytes n (p .0))
+      ∙ ap (λ (ws : List (List ℕ)). textFor table n ∷ ws) (written-words m ns k (p .1))
+
+  numbers-back : (ns : List ℕ) → every (hasNumber table) ns ≡ true → map (numberFor table) (map (textFor table) ns) ≡ ns
+  unfolding every
+  numbers-back [] h = refl
+  numbers-back (n ∷ ns) h =
+      let p = both (hasNumber table n) (every (hasNumber table) ns) h in
+      rw (told table n apart-codes (p .0) .number, numbers-back ns (p .1))
+
+  texts-back : (ws : List (List ℕ)) → every isCode (map (numberFor table) ws) ≡ true
+      → (every (hasNumber table) (map (numberFor table) ws) ≡ true) × (map (textFor table) (map (numberFor table) ws) ≡ ws)
+  unfolding every
+  texts-back [] h = (refl, refl)
+  texts-back (w ∷ ws) h =
+      let p = both (isCode (numberFor table w)) (every isCode (map (numberFor table) ws)) h in
+      let f = found table w apart-codes (p .0) in
+      let r = texts-back ws (p .1) in
+      (rw (f .there, r .0), rw (f .text, r .1))
+
+  all-codes : (ns : List ℕ) → every (hasNumber table) ns ≡ true → every isCode ns ≡ true
+  unfolding every
+  all-codes [] h = refl
+  all-codes (n ∷ ns) h =
+      let p = both (hasNumber table n) (every (hasNumber table) ns) h in
+      rw (told table n apart-codes (p .0) .code, all-codes ns (p .1))
+
+  read-writes : (f : List ℕ) (s : Services) → readBy table f ≡ Value s → (ns : List ℕ) × Writes table f s ns
+  unfolding readBy
+  read-writes f s r = go (eqb (length f) 30) (isBlank f) (addable noServices (numbersIn table f)) refl refl (rw (added-is noServices (numbersIn table f)) at r)
+    where
+      go : (l b a : Bool) → eqb (length f) 30 ≡ l → addable noServices (numbersIn table f) ≡ a
+          → cond l (cond b Absent (cond a (Value (servicesOf (numbersIn table f))) Malformed)) Malformed ≡ Value s → (ns : List ℕ) × Writes table f s ns
+      go false b a el ea r = let z : _≡_ {A = ℕ} 0 1 = cc in absurd (omega arith)
+      go true true a el ea r = let z : _≡_ {A = ℕ} 0 1 = cc in absurd (omega arith)
+      go true false false el ea r = let z : _≡_ {A = ℕ} 0 1 = cc in absurd (omega arith)
+      go true false true el ea r =
+          let ns = numbersIn table f in
+          let long = eqb-true (length f) 30 el in
+          let p = both (every isCode ns) (allDifferent ns && apart noServices ns) ea in
+          let q = both (allDifferent ns) (apart noServices ns) (p .1) in
+          let t = texts-back (words f) (p .0) in
+          let back = joined-again f in
+          let text : f ≡ servicesText table ns ++ replicate (back .0) 32 = back .1 ∙ ap (λ (ws : List (List ℕ)). plusJoined ws ++ replicate (back .0) 32) (sym (t .1)) in
+          let size : length (servicesText table ns) + back .0 ≡ 30 = sym (ap length text ∙ length-append (servicesText table ns) (replicate (back .0) 32) ∙ ap (λ (n : ℕ). length (servicesText table ns) + n) (length-replicate (back .0) 32)) ∙ long in
+          let rest : back .0 ≡ 30 - length (servicesText table ns) = omega arith in (
+            ns,
+            record {
+              some = rw length-map (some-word f);
+              codes = t .0;
+              different = q .0;
+              long = long;
+              text = text ∙ ap (λ (k : ℕ). servicesText table ns ++ replicate k 32) rest;
+              set = sym (value-of (servicesOf ns) s r);
+            },
+          )
+
+  module _ (f : List ℕ) (s : Services) where
+    words-are : (ns : List ℕ) → Writes table f s ns → words f ≡ map (textFor table) ns
+    words-are [] w = absurd (omega (arith, w .some))
+    words-are (n ∷ ns) w = ap words (w .text) ∙ written-words n ns (30 - length (servicesText table (n ∷ ns))) (w .codes)
+
+    -- the codes are those that the text says, in its order: no other list has this writing
+    pub numbers-are : (ns : List ℕ) → Writes table f s ns → numbersIn table f ≡ ns
+    numbers-are ns w = ap (map (numberFor table)) (words-are ns w) ∙ numbers-back ns (w .codes)
+
+    filled : (ns : List ℕ) → Writes table f s ns → isBlank f ≡ false
+    unfolding every
+    filled ns w = go (isBlank f) refl ns (words-are ns w) (w .codes)
+      where
+        go : (b : Bool) → isBlank f ≡ b → (ns : List ℕ) → words f ≡ map (textFor table) ns → every (hasNumber table) ns ≡ true → b ≡ false
+        go false e ns g h = refl
+        go true e [] g h = absurd (omega (arith, some-word f, ap length g))
+        go true e (n ∷ ns) g h =
+            let t = told table n apart-codes (both (hasNumber table n) (every (hasNumber table) ns) h .0) in
+            let none : textFor table n ≡ [] = sym (ap first (sym (blank-words f e) ∙ g)) in
+            absurd (clash (ap isWord (sym none) ∙ t .word) refl)
+          where
+            first : List (List ℕ) → List ℕ
+            first [] = []
+            first (w ∷ ws) = w
+
+    writes-read : (ns : List ℕ) → Writes table f s ns → readBy table f ≡ Value s
+    unfolding readBy
+    writes-read ns w =
+        rw (eq-eqb (length f) 30 (w .long), filled ns w, numbers-are ns w, added-is noServices ns, all-codes ns (w .codes), w .different, apart-none ns) (ap Value (sym (w .set)))
+
+    -- the field reads as a set exactly if it is the joined texts of different codes of the table, and the set is theirs
+    pub services-exactly : (readBy table f ≡ Value s) ↔ ((ns : List ℕ) × Writes table f s ns)
+    services-exactly = (read-writes f s, λ p. writes-read (p .0) (p .1))
+
+    -- such a set has just the codes that stand in the field
+    pub services-have : (ns : List ℕ) (k : ℕ) → Writes table f s ns → hasCode s k ≡ contains k ns
+    services-have ns k w = rw (w .set) (has-exactly ns k (w .different))
+
+-- ---- and it is absent exactly if it is blank
+pub services-absent : (table : List Code) (f : List ℕ) → (readBy table f ≡ Absent) ↔ (f ≡ replicate 30 32)
+unfolding readBy
+services-absent table f = (λ r. go (eqb (length f) 30) refl (isBlank f) refl (rw (added-is noServices (numbersIn table f)) at r), λ e. let p = blank-exactly 30 f .1 e in rw (eq-eqb (length f) 30 (p .0), p .1))
   where
-    go : (b : Bool) → isBlank f ≡ b → codesOf f ≡ cs → cond (eqb (length f) 30) (cond b Absent (added noServices (codesOf f))) Malformed ≡ Value s
-    go true e codes =
-        let none : cs ≡ 0 ∷ [] = sym codes ∙ ap codesOf (blank-exactly 30 f .0 (w .long, e)) ∙ spaces-end 0 30 in
-        let z : _≡_ {A = ℕ} 0 1 = zero-no-code (ap (every isCode) (sym none) ∙ w .codes) in
-        absurd (omega arith)
-    go false e codes =
-        rw (eq-eqb (length f) 30 (w .long), codes, added-is noServices cs, w .codes, w .different, apart-none cs) (ap Value (sym (w .set)))
+    go : (l : Bool) → eqb (length f) 30 ≡ l → (b : Bool) → isBlank f ≡ b
+        → cond l (cond b Absent (cond (addable noServices (numbersIn table f)) (Value (servicesOf (numbersIn table f))) Malformed)) Malformed ≡ Absent → f ≡ replicate 30 32
+    go true el true eb r = blank-exactly 30 f .0 (eqb-true (length f) 30 el, eb)
+    go true el false eb r = neither (addable noServices (numbersIn table f)) r
+      where
+        neither : (a : Bool) → cond a (Value (servicesOf (numbersIn table f))) Malformed ≡ Absent → f ≡ replicate 30 32
+        neither true r = let z : _≡_ {A = ℕ} 0 1 = cc in absurd (omega arith)
+        neither false r = let z : _≡_ {A = ℕ} 0 1 = cc in absurd (omega arith)
+    go false el b eb r = let z : _≡_ {A = ℕ} 0 1 = cc in absurd (omega arith)
 
--- the field reads as a set exactly if it is the writing of codes from 1 to 99, all different, and the set is theirs
-pub services-exactly : (f : List ℕ) (s : Services) → (readServices f ≡ Value s) ↔ ((cs : List ℕ) × Writes f s cs)
-services-exactly f s = (read-writes f s, λ p. writes-read f s (p .0) (p .1))
+-- so it is good exactly if it is blank, or the joined texts of different codes
+pub good-services-exactly : (table : List Code) (f : List ℕ) → toldApart table ≡ true → (malformedServices (readBy table f) ≡ false) ↔ GoodServices table f
+good-services-exactly table f apart-codes = (go (readBy table f) refl, back)
+  where
+    go : (r : ServicesReading) → readBy table f ≡ r → malformedServices r ≡ false → GoodServices table f
+    go Absent e h = blank (services-absent table f .0 e)
+    go (Value s) e h = let p = services-exactly table apart-codes f s .0 e in written s (p .0) (p .1)
+    go Malformed e h = absurd (clash refl h)
 
--- such a set has just the codes that stand in the field
-pub services-have : (f : List ℕ) (s : Services) (cs : List ℕ) (k : ℕ) → Writes f s cs → hasCode s k ≡ contains k cs
-services-have f s cs k w = rw (w .set) (has-exactly cs k (w .different))
+    back : GoodServices table f → malformedServices (readBy table f) ≡ false
+    back (blank e) = ap malformedServices (services-absent table f .1 e)
+    back (written s ns w) = ap malformedServices (services-exactly table apart-codes f s .1 (ns, w))
+
+-- ---- our table is one of these
+pub codes-told-apart : toldApart codes ≡ true
+unfolding toldApart hasNumber hasText sameBytes every codes numbersFrom digits decimalPlacesUpTo
+codes-told-apart = refl

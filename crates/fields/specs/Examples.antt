@@ -8,7 +8,8 @@ use mathlib.Core.Bool.{Bool, true, false, not, _&&_}
 use lib.Dec.{eqb}
 use lib.ListN.{length, replicate}
 use Rattle.text.specs.Bytes.{every, run}
-use Rattle.text.specs.Numbers.{numberAfter}
+use Rattle.text.specs.Lists.{sameBytes}
+use Rattle.text.specs.Numbers.{numberAfter, digits, decimalPlacesUpTo}
 use Rattle.text.specs.Texts.{bytes, allHold}
 use Rattle.ident.specs.Identifier.{shapeOf, weighted, sumOf, remainder, endsRight, rightId}
 use Rattle.fields.specs.declared.dates.DateReading.{DateReading}
@@ -23,7 +24,8 @@ use Rattle.fields.specs.declared.services.ServicesReading.the-variants a
 use Rattle.fields.specs.Frame.{framed}
 use Rattle.fields.specs.Dates.{daysIn, readDate, malformedDate}
 use Rattle.fields.specs.Amounts.{isMoney, readWeight, malformedWeight, readMoney, malformedMoney}
-use Rattle.fields.specs.Services.{codesFrom, hasCode, noServices, withCode, added, readServices, malformedServices}
+use Rattle.fields.specs.Codes.{numbersFrom, codes, numberFor}
+use Rattle.fields.specs.Services.{words, hasCode, noServices, withCode, added, readBy, readServices, malformedServices}
 
 -- ---- an identifier, right or wrong, with its weighted sum and the remainder
 unfoldable pub adds : List ℕ → ℕ → ℕ → Bool
@@ -84,6 +86,18 @@ claims =
     ∷ malformedServices (readServices (inField 30 "7+"))  -- 12
     ∷ malformedServices (readServices (inField 30 "7+7"))  -- 12
     ∷ malformedServices (readServices (inField 30 "07"))  -- 12
+    ∷ isSet (withCode noServices 99) (readServices (inField 30 "99"))  -- codes: numbers, letters, sizes
+    ∷ isSet (withCode (withCode (withCode noServices 100) 1) 105) (readServices (inField 30 "1A+1+S"))
+    ∷ isSet (withCode (withCode (withCode (withCode noServices 101) 102) 103) 104) (readServices (inField 30 "1B+1D+1K+1N"))
+    ∷ isSet (withCode (withCode (withCode noServices 106) 107) 108) (readServices (inField 30 "M+L+XL"))
+    ∷ malformedServices (readServices (inField 30 "S+S"))
+    ∷ malformedServices (readServices (inField 30 "X"))
+    ∷ malformedServices (readServices (inField 30 "1a"))
+    ∷ malformedServices (readServices (inField 30 "1C"))
+    ∷ malformedServices (readServices (inField 30 "XLL"))
+    ∷ malformedServices (readServices (inField 30 "100"))
+    ∷ malformedServices (readServices (inField 30 "S M"))
+    ∷ malformedServices (readServices (inField 30 " S"))
     ∷ isDate 20240229 (readDate (bytes "20240229"))  -- 13
     ∷ malformedDate (readDate (bytes "20230229"))  -- 13
     ∷ malformedDate (readDate (bytes "19991231"))  -- 13
@@ -91,5 +105,5 @@ claims =
     ∷ []
 
 pub shown : allHold claims ≡ true
-unfolding bytes allHold every run numberAfter shapeOf weighted endsRight rightId adds right wrong framed daysIn readDate isMoney codesFrom hasCode withCode added readServices inField isHellers isGrams isSet isDate claims
+unfolding bytes allHold every run numberAfter shapeOf weighted endsRight rightId adds right wrong framed daysIn readDate isMoney sameBytes digits decimalPlacesUpTo numbersFrom codes numberFor words hasCode withCode added readBy inField isHellers isGrams isSet isDate claims
 shown = refl

@@ -5,6 +5,7 @@ pub mod Numbers
 pub mod Others
 pub mod Postcodes
 pub mod Amounts
+pub mod Codes
 pub mod Services
 pub mod ServiceTexts
 pub mod Scans

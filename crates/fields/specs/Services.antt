@@ -1,34 +1,31 @@
--- Field 18: services, blank, or codes 1 to 99 with no leading zero, joined by "+", left-aligned, no code twice.
+-- Field 18: services, blank, or codes joined by "+", left-aligned, no code twice. `Codes` has the table of them.
 -- Assumes nothing.
-use Prim.Native.Nat.{ℕ, _+_, _-_, _*_, _/_, _%_, _^_}
+use Prim.Native.Nat.{ℕ, suc, _+_, _-_, _/_, _%_, _^_}
 use mathlib.Core.Bool.{Bool, true, false, cond, not, _&&_}
-use mathlib.Core.List.{List, [], _∷_}
+use mathlib.Core.List.{List, [], _∷_, map}
 use lib.ListN.{length}
-use lib.Dec.{eqb, leb, ltb}
-use Rattle.text.specs.Bytes.{isDigit, isBlank}
+use lib.Dec.{eqb, ltb}
+use Rattle.text.specs.Bytes.{isBlank}
 use Rattle.layout.specs.Layout.{widthOf}
 use Rattle.fields.specs.declared.services.Services.{Services}
 use Rattle.fields.specs.declared.services.ServicesReading.{ServicesReading}
 use Rattle.fields.specs.declared.services.ServicesReading.the-variants.{Absent, Value, Malformed}
+use Rattle.fields.specs.Codes.{Code, sizes, codes, numbersOf, numberFor, isCode}
 
--- ---- the codes that a text writes, with 0 for an empty place and 100 for what is no code
--- a code with one more digit: 100 for a leading zero and for a third digit
-abbrev pub withDigit : ℕ → ℕ → ℕ
-withDigit c d = cond (leb c 9 && not (eqb (c + d) 0)) (c * 10 + d) 100
+-- ---- the words of a text, joined by "+": the spaces at its end are in none of them
+abbrev pub inFront : ℕ → List (List ℕ) → List (List ℕ)
+inFront b [] = (b ∷ []) ∷ []
+inFront b (w ∷ ws) = (b ∷ w) ∷ ws
 
-unfoldable pub codesFrom : ℕ → List ℕ → List ℕ
-codesFrom c [] = c ∷ []
-codesFrom c (b ∷ bs) =
-    cond (isDigit b) (codesFrom (withDigit c (b - 48)) bs)
-    (cond (eqb b 43) (c ∷ codesFrom 0 bs) (cond (isBlank (b ∷ bs)) c 100 ∷ []))
+unfoldable pub words : List ℕ → List (List ℕ)
+words [] = [] ∷ []
+words (b ∷ bs) = cond (isBlank (b ∷ bs)) ([] ∷ []) (cond (eqb b 43) ([] ∷ words bs) (inFront b (words bs)))
 
-abbrev pub codesOf : List ℕ → List ℕ
-codesOf f = codesFrom 0 f
+-- the numbers of the codes that they are, with 0 for a word that is none
+abbrev pub numbersIn : List Code → List ℕ → List ℕ
+numbersIn table f = map (numberFor table) (words f)
 
-abbrev pub isCode : ℕ → Bool
-isCode c = leb 1 c && leb c 99
-
--- ---- a set of codes as data: code c is bit c of `low` below 64, else bit c - 64 of `high`
+-- ---- a set of codes as data: number c is bit c of `low` below 64, else bit c - 64 of `high`
 abbrev pub bit : ℕ → ℕ → Bool
 bit k n = eqb (n / 2 ^ k % 2) 1
 
@@ -47,8 +44,12 @@ unfoldable pub added : Services → List ℕ → ServicesReading
 added s [] = Value s
 added s (c ∷ cs) = cond (isCode c && not (hasCode s c)) (added (withCode s c) cs) Malformed
 
-unfoldable pub readServices : List ℕ → ServicesReading
-readServices f = cond (eqb (length f) (widthOf 18)) (cond (isBlank f) Absent (added noServices (codesOf f))) Malformed
+-- by any table of codes, and by ours
+unfoldable pub readBy : List Code → List ℕ → ServicesReading
+readBy table f = cond (eqb (length f) (widthOf 18)) (cond (isBlank f) Absent (added noServices (numbersIn table f))) Malformed
+
+abbrev pub readServices : List ℕ → ServicesReading
+readServices = readBy codes
 
 -- ---- what the rules ask of the field
 abbrev pub malformedServices : ServicesReading → Bool
@@ -61,3 +62,12 @@ abbrev pub servicesIn : ServicesReading → Services
 servicesIn Absent = noServices
 servicesIn (Value s) = s
 servicesIn Malformed = noServices
+
+-- how many of some numbers pass a test
+unfoldable pub howMany : (ℕ → Bool) → List ℕ → ℕ
+howMany test [] = 0
+howMany test (n ∷ ns) = cond (test n) (suc (howMany test ns)) (howMany test ns)
+
+-- more than one size is there
+unfoldable pub severalSizes : Services → Bool
+severalSizes s = ltb 1 (howMany (hasCode s) (numbersOf sizes))

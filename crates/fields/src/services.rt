@@ -1,15 +1,104 @@
 // 18: services.
 ghost use mathlib.Core.Path.{_≡_};
 ghost use mathlib.Core.Bool.{true, false};
-ghost use Prim.Native.Nat.{_-_};
+ghost use Prim.Native.Nat.{_<_};
 ghost use Rattle.text.specs.Promises.{Gives};
-ghost use Rattle.fields.specs.Services.{codesOf, isCode, hasCode, noServices, withDigit, withCode, added, readServices, malformedServices, servicesIn};
-ghost use Rattle.fields.specs.Scans.{addedOne, behindPlus, behindByte, finished};
+ghost use Rattle.fields.specs.Codes.{numbers, codes, isCode};
+ghost use Rattle.fields.specs.Services.{numbersIn, hasCode, noServices, withCode, added, readServices, malformedServices, servicesIn, severalSizes};
+ghost use Rattle.fields.specs.Scans.{withByte, numberAt, withLetters, addedOne, behindPlus, behindByte, finished};
 use layout::WIDTHS;
 
 const SERVICES_WIDTH: usize = WIDTHS[18 - 1];
 
-// The codes 1 to 99 that are present: code c is bit c of `low` below 64, else bit c - 64 of `high`.
+// ---- codes
+
+// A code has a number: 1 to 99 its own, and those with letters one each from here on.
+const FIRST_LETTERED: u64 = 100;
+
+const SIZE_S: u64 = 105;
+
+const SIZE_M: u64 = 106;
+
+const SIZE_L: u64 = 107;
+
+const SIZE_XL: u64 = 108;
+
+// Their texts, each as a word of one byte or two: the next code is a row more.
+const LETTERED: [u64; 9] = [
+    b'1' as u64 * 256 + b'A' as u64,
+    b'1' as u64 * 256 + b'B' as u64,
+    b'1' as u64 * 256 + b'D' as u64,
+    b'1' as u64 * 256 + b'K' as u64,
+    b'1' as u64 * 256 + b'N' as u64,
+    b'S' as u64,
+    b'M' as u64,
+    b'L' as u64,
+    b'X' as u64 * 256 + b'L' as u64,
+];
+
+// A word that no code has.
+const NO_WORD: u64 = 65536;
+
+// The word with one byte more.
+fn with_byte(word: u64, b: u8) -> u64
+    requires { ⌜ 32 < b ⌝ }
+    ensures { λ r. ⌜ r ≡ withByte word b ⌝ }
+{
+    if word < 256 {
+        word * 256 + b as u64
+    } else {
+        NO_WORD
+    }
+}
+
+// The number that one digit or two write with no leading zero; 0 for other words.
+fn number_in(word: u64) -> u64
+    ensures { λ r. ⌜ r ≡ numberAt numbers word ⌝ }
+{
+    let tens = word / 256;
+    let ones = word % 256;
+    let digit = (48 <= ones) & (ones <= 57);
+    if !digit {
+        return 0;
+    }
+    if tens == 0 {
+        return ones - 48;
+    }
+    let leading = (49 <= tens) & (tens <= 57);
+    if leading {
+        (tens - 48) * 10 + (ones - 48)
+    } else {
+        0
+    }
+}
+
+fn lettered_in(word: u64) -> u64
+    ensures { λ r. ⌜ r ≡ numberAt withLetters word ⌝ }
+{
+    let mut i: usize = 0;
+    while i < 9 {
+        if LETTERED[i] == word {
+            return FIRST_LETTERED + i as u64;
+        }
+        i += 1;
+    }
+    0
+}
+
+// The number of the code that a word is; 0 for none.
+fn code_in(word: u64) -> u64
+    ensures { λ r. ⌜ r ≡ numberAt codes word ⌝ }
+{
+    let number = number_in(word);
+    if number > 0 {
+        return number;
+    }
+    lettered_in(word)
+}
+
+// ---- sets of codes
+
+// The codes that are present, by their numbers: c is bit c of `low` below 64, else bit c - 64 of `high`.
 pub struct Services {
     pub low: u64,
     pub high: u64,
@@ -57,6 +146,16 @@ impl Services {
         }
         false
     }
+
+    pub fn has_several_sizes(self) -> bool
+        ensures { λ r. ⌜ Gives (severalSizes self) r ⌝ }
+    {
+        let small = self.has(SIZE_S);
+        let medium = self.has(SIZE_M);
+        let large = self.has(SIZE_L);
+        let extra = self.has(SIZE_XL);
+        small & medium | (small | medium) & (large | extra) | large & extra
+    }
 }
 
 fn with_code(s: Services, code: u64) -> Services
@@ -80,7 +179,7 @@ fn with_code(s: Services, code: u64) -> Services
 fn add_code(s: Services, code: u64) -> ServicesReading
     ensures { λ r. ⌜ r ≡ addedOne s code ⌝ }
 {
-    let good = (1 <= code) & (code <= 99) & !s.has(code);
+    let good = (1 <= code) & (code <= 127) & !s.has(code);
     if good {
         ServicesReading::Value(with_code(s, code))
     } else {
@@ -88,24 +187,12 @@ fn add_code(s: Services, code: u64) -> ServicesReading
     }
 }
 
-// The code that goes on with a digit: 100, which is none, for a leading zero and for a third digit.
-fn with_digit(code: u64, b: u8) -> u64
-    ensures { λ r. ⌜ r ≡ withDigit code (b - 48) ⌝ }
-{
-    let d = text::digit_value(b);
-    if code > 9 {
-        return 100;
-    }
-    if code + d == 0 {
-        return 100;
-    }
-    code * 10 + d
-}
+// ---- the scan
 
-// What a scan of services knows: the codes before the last "+", the digits behind it as a number, and whether a code was no good.
+// What a scan of services knows: the codes before the last "+", the word behind it, its bytes as places of 256, and whether a code was no good.
 pub struct Scan {
     pub services: Services,
-    pub code: u64,
+    pub word: u64,
     pub bad: bool,
 }
 
@@ -114,27 +201,28 @@ fn behind_plus(scan: Scan) -> Scan
     ensures { λ r. ⌜ r ≡ behindPlus scan ⌝ }
 {
     let services = scan.services;
-    match add_code(services, scan.code) {
+    match add_code(services, code_in(scan.word)) {
         ServicesReading::Value(more) => Scan {
             services: more,
-            code: 0,
+            word: 0,
             bad: scan.bad,
         },
         ServicesReading::Absent => Scan {
             services,
-            code: 0,
+            word: 0,
             bad: true,
         },
         ServicesReading::Malformed => Scan {
             services,
-            code: 0,
+            word: 0,
             bad: true,
         },
     }
 }
 
-// The scan behind a digit or a "+".
+// The scan behind a byte of a word, or a "+".
 fn behind(scan: Scan, b: u8) -> Scan
+    requires { ⌜ 32 < b ⌝ }
     ensures { λ r. ⌜ r ≡ behindByte scan b ⌝ }
 {
     if b == b'+' {
@@ -143,36 +231,35 @@ fn behind(scan: Scan, b: u8) -> Scan
     let services = scan.services;
     Scan {
         services,
-        code: with_digit(scan.code, b),
+        word: with_byte(scan.word, b),
         bad: scan.bad,
     }
 }
 
-// What a scan gives where the digits and "+" end: nothing but spaces may follow.
+// What a scan gives where the words end: nothing but spaces may follow.
 fn finished(scan: Scan, rest: &[u8]) -> ServicesReading
     ensures { λ r. ⌜ r ≡ finished scan (now (rest .entry)) ⌝ }
 {
     let good = text::blank(rest) & !scan.bad;
     if good {
-        add_code(scan.services, scan.code)
+        add_code(scan.services, code_in(scan.word))
     } else {
         ServicesReading::Malformed
     }
 }
 
 fn scan_services(f: &[u8]) -> ServicesReading
-    ensures { λ r. ⌜ r ≡ added noServices (codesOf (now (f .entry))) ⌝ }
+    ensures { λ r. ⌜ r ≡ added noServices (numbersIn codes (now (f .entry))) ⌝ }
 {
     let mut scan = Scan {
         services: Services { low: 0, high: 0 },
-        code: 0,
+        word: 0,
         bad: false,
     };
     let mut i = 0;
     while i < f.len() {
         let b = f[i];
-        let listed = text::is_digit(b) | (b == b'+');
-        if !listed {
+        if b <= 32 {
             return finished(scan, &f[i..]);
         }
         scan = behind(scan, b);

@@ -7,7 +7,7 @@ use mathlib.Core.List.{List, [], _∷_}
 use Rattle.text.specs.Answers.{orElse}
 use Rattle.text.specs.Bytes.{every, run}
 use Rattle.text.specs.Lists.{sameBytes}
-use Rattle.text.specs.Numbers.{numberAfter}
+use Rattle.text.specs.Numbers.{numberAfter, digits, decimalPlacesUpTo}
 use Rattle.text.specs.Texts.{bytes}
 use Rattle.psc.specs.Table.{risesFrom, rightTable, holds}
 use Rattle.ident.specs.Identifier.{shapeOf, weighted, endsRight, rightId}
@@ -18,7 +18,8 @@ use Rattle.fields.specs.Frame.{framed}
 use Rattle.fields.specs.Dates.{daysIn, readDate, readTime}
 use Rattle.fields.specs.Texts.{filled, contains, isHost, isMail}
 use Rattle.fields.specs.Amounts.{isMoney}
-use Rattle.fields.specs.Services.{codesFrom, hasCode, withCode, added, readServices}
+use Rattle.fields.specs.Codes.{numbersFrom, codes, numberFor}
+use Rattle.fields.specs.Services.{words, hasCode, withCode, added, readBy, howMany, severalSizes}
 use Rattle.fields.specs.Examples.{inField}
 use Rattle.record.specs.Rules.{askedOf, givenOf, travelOf, table, recordAnswer}
 use Rattle.record.specs.Examples.{listed, laidOut, recordOf, parcel, sentTo, domestic, cashOnDelivery, cancelledParcel}
@@ -39,5 +40,5 @@ pub record Shown : Type 0 where
   pub strays : fileCheck listed twoConsignors ≡ refused 241 3 1
 
 pub shown : Shown
-unfolding risesFrom rightTable holds bytes every run numberAfter sameBytes shapeOf weighted endsRight rightId partsOf fieldOf framed daysIn readDate readTime filled contains isHost isMail isMoney codesFrom hasCode withCode added readServices askedOf givenOf travelOf table recordAnswer inField laidOut recordOf parcel cashOnDelivery cancelledParcel orElse repeats lineAnswer brought totalsOver breakFrom fileAnswer fileCheck sentTo domestic consignorIn anotherIn upTo oneConsignor twoConsignors
+unfolding risesFrom rightTable holds bytes every run numberAfter sameBytes shapeOf weighted endsRight rightId partsOf fieldOf framed daysIn readDate readTime filled contains isHost isMail isMoney digits decimalPlacesUpTo numbersFrom codes numberFor words hasCode withCode added readBy howMany severalSizes askedOf givenOf travelOf table recordAnswer inField laidOut recordOf parcel cashOnDelivery cancelledParcel orElse repeats lineAnswer brought totalsOver breakFrom fileAnswer fileCheck sentTo domestic consignorIn anotherIn upTo oneConsignor twoConsignors
 shown = record { passes = refl; strays = refl }

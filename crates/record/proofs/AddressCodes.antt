@@ -2,7 +2,7 @@
 -- Assumes nothing.
 use Prim.Native.Nat.{ℕ}
 use mathlib.Core.Path.{_≡_, refl, ap}
-use mathlib.Core.Bool.{Bool, true, false, _&&_, and-eq-true-iff}
+use mathlib.Core.Bool.{true, _&&_, and-eq-true-iff}
 use mathlib.Core.List.{List}
 use mathlib.Core.Logic.{_↔_}
 use Rattle.text.specs.Answers.{answer}
@@ -20,7 +20,7 @@ use Rattle.record.specs.Readings.{textIn, addressOf}
 use Rattle.record.specs.Rules.{Terms, table, recordAnswer}
 use Rattle.record.specs.Codes.{lacks}
 use Rattle.record.specs.Outcomes.{Blank, PostcodeMalformed, CountryMalformed, NameMissing, PostcodeMissing, MunicipalityMissing}
-use Rattle.record.proofs.Turns.{turn-exactly}
+use Rattle.record.proofs.Turns.{bad-exactly, turn-exactly}
 
 module _ (t : Terms) (rec : List ℕ) where
   text-blank : (n : ℕ) → (absentText (textIn rec n) ≡ true) ↔ Blank rec n
@@ -39,11 +39,7 @@ module _ (t : Terms) (rec : List ℕ) where
       (λ h. let p = and .0 h in (home .0 (p .0), none .0 (p .1)), λ b. and .1 (home .1 (b .0), none .1 (b .1)))
 
   wrong : (malformedPostcode (addressOf rec .postcode) ≡ true) ↔ (GoodPostcode (fieldOf rec 6) (fieldOf rec 5) → ⊥)
-  wrong = go (malformedPostcode (addressOf rec .postcode)) (good-postcode-exactly (fieldOf rec 6) (fieldOf rec 5))
-    where
-      go : (t : Bool) → (t ≡ false) ↔ GoodPostcode (fieldOf rec 6) (fieldOf rec 5) → (t ≡ true) ↔ (GoodPostcode (fieldOf rec 6) (fieldOf rec 5) → ⊥)
-      go true e = (λ h g. clash refl (e .1 g), λ n. refl)
-      go false e = (λ h. absurd (clash h refl), λ n. absurd (n (e .0 refl)))
+  wrong = bad-exactly (malformedPostcode (addressOf rec .postcode)) (good-postcode-exactly (fieldOf rec 6) (fieldOf rec 5))
 
   -- ---- 210
   pub code-210-at-5-exactly : (recordAnswer t rec ≡ answer 210 5) ↔ PostcodeMalformed rec

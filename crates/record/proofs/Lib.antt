@@ -11,3 +11,5 @@ pub mod WeightCodes
 pub mod PostcodeCodes
 pub mod AddressCodes
 pub mod BlankAbroad
+pub mod NumbersOnly
+pub mod ServiceCodes

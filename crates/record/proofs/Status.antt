@@ -90,7 +90,7 @@ status-only known p q rec new same e =
     rw (e, other 1 refl, other 2 refl, other 3 refl, other 4 refl, other 5 refl, other 6 refl, other 7 refl, other 8 refl, other 9 refl, other 10 refl, other 11 refl, other 12 refl, other 13 refl, other 14 refl, other 15 refl, other 16 refl, other 17 refl, other 18 refl, other 20 refl, other 21 refl, other 22 refl, other 23 refl, other 24 refl, other 25 refl, other 26 refl)
 
 -- ---- a record that keeps a table has no malformed field, so a status that it allows
-no-flag : (bs : List Bool) (p k : ℕ) → anyCase (placesFrom p bs) ≡ false → getD bs k false ≡ false
+pub no-flag : (bs : List Bool) (p k : ℕ) → anyCase (placesFrom p bs) ≡ false → getD bs k false ≡ false
 no-flag [] p k h = refl
 no-flag (true ∷ bs) p k h = absurd (clash refl h)
 no-flag (false ∷ bs) p zero h = refl

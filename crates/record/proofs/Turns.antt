@@ -18,6 +18,11 @@ use Rattle.record.specs.Outcomes.{noCase, noneBroken, ExactlyAt, InItsTu
 use Rattle.record.proofs.Codes.{Lacking, lacking}
 use Rattle.record.proofs.Order.{Judged, passes, breaks, judge-case, none-other}
 
+-- what is bad exactly if it is not good
+pub bad-exactly : {good : Type 0} (bad : Bool) → (bad ≡ false) ↔ good → (bad ≡ true) ↔ (good → ⊥)
+bad-exactly true e = (λ h g. clash refl (e .1 g), λ n. refl)
+bad-exactly false e = (λ h. absurd (clash h refl), λ n. absurd (n (e .0 refl)))
+
 -- a code that does not come, for a condition that does not hold
 pub never-given : {c p : ℕ} {condition : Type 0} {a : Answer} → (a .code ≡ c → ⊥) → (condition → ⊥) → ExactlyAt c p condition a
 never-given n m = record { when = (λ z. absurd (n z), λ h. absurd (m h)); there = λ z. absurd (n z) }
@@ -36,6 +41,26 @@ case-exactly (x ∷ before) c p b after first later =
         → ExactlyAt c p ((noneBroken (x ∷ before) ≡ true) × (b ≡ true)) a
     go (passes n e) l h = rw (e, n) h
     go (breaks y f) l h = never-given (λ z. l .first (sym (ap (λ (v : Answer). v .code) (f .says)) ∙ z)) (λ g. clash (g .0) (rw y))
+
+-- the same of what is answered to a record by such a table
+pub row-exactly : (rec : List ℕ) (before : List Rule) (c p : ℕ) (b : Bool) (after : List Rule) (condition : Type 0) → (b ≡ true) ↔ condition
+    → lacks c (236 ∷ map codeOf before) ≡ true → lacks c (0 ∷ map codeOf after) ≡ true
+    → ExactlyAt c p (InItsTurn rec before [] condition) (cond (eqb (length rec) 399) (verdict (before ++ rule c (at p b ∷ []) ∷ after)) wrongLength)
+unfolding noCase
+row-exactly rec before c p b after condition means first later =
+    let l = lacking c 236 (map codeOf before) first in
+    go (eqb (length rec) 399) refl (l .first) (case-exactly before c p b after (l .rest) later)
+  where
+    go : (long : Bool) → eqb (length rec) 399 ≡ long → (_≡_ {A = ℕ} 236 c → ⊥) → ExactlyAt c p ((noneBroken before ≡ true) × (b ≡ true)) (verdict (before ++ rule c (at p b ∷ []) ∷ after))
+        → ExactlyAt c p (InItsTurn rec before [] condition) (cond long (verdict (before ++ rule c (at p b ∷ []) ∷ after)) wrongLength)
+    go true l n e = record {
+      when = (
+        λ z. record { long = eqb-true _ 399 l; turn = e .when .0 z .0; first = refl; holds = means .0 (e .when .0 z .1) },
+        λ w. e .when .1 (w .turn, means .1 (w .holds)),
+      );
+      there = e .there;
+    }
+    go false l n e = never-given n (λ w. eqb-false _ 399 l (w .long))
 
 -- ---- a row with several cases, one at this place: its code comes with this place exactly if no row before it is broken, no case before this one holds,
 -- and this one does

@@ -6,7 +6,7 @@ use mathlib.Core.Path.{_≡_, refl, ap, _∙_}
 use mathlib.Core.Bool.{Bool, true, false, cond}
 use mathlib.Core.List.{List, [], _∷_, _++_, map}
 use mathlib.Core.Logic.{_↔_}
-use borrow.Author.Tests.{ne-eqb, eqb-true, eqb-false}
+use borrow.Author.Tests.{ne-eqb}
 use lib.Dec.{eqb}
 use lib.ListN.{length}
 use Rattle.text.specs.declared.Answer.{Answer}
@@ -14,10 +14,10 @@ use Rattle.text.specs.Answers.{wrongLength}
 use Rattle.record.specs.Table.{Rule, at, rule, verdict, codeOf}
 use Rattle.record.specs.Rules.{Terms, twoCodes, table, recordAnswer}
 use Rattle.record.specs.Codes.{lacks}
-use Rattle.record.specs.Outcomes.{noCase, noneBroken, ExactlyAt, InItsTurn}
+use Rattle.record.specs.Outcomes.{ExactlyAt, InItsTurn}
 use Rattle.record.proofs.Codes.{Lacking, lacking}
 use Rattle.record.proofs.Order.{none-other}
-use Rattle.record.proofs.Turns.{never-given, case-exactly, moved, made-two, new-exactly, old-exactly, answer-moves}
+use Rattle.record.proofs.Turns.{row-exactly, moved, made-two, new-exactly, old-exactly, answer-moves}
 
 -- the table with one code for both
 unfoldable pub oneCode : List Rule → ℕ → ℕ → Bool → List Rule → List Rule
@@ -41,21 +41,8 @@ module _ {t : Terms} {rec : List ℕ} {before : List Rule} {new old p : ℕ} {b 
 
   -- ---- when the one code came, and that the other never did
   one-exactly : ExactlyAt old p (InItsTurn rec before [] condition) formerly
-  unfolding oneCode oneCodeAnswer noCase
-  one-exactly =
-      let l = lacking old 236 (map codeOf before) (rows .first) in
-      go (eqb (length rec) 399) refl (l .first) (case-exactly before old p b after (l .rest) (rows .later))
-    where
-      go : (long : Bool) → eqb (length rec) 399 ≡ long → (_≡_ {A = ℕ} 236 old → ⊥) → ExactlyAt old p ((noneBroken before ≡ true) × (b ≡ true)) (verdict (before ++ rule old (at p b ∷ []) ∷ after))
-          → ExactlyAt old p (InItsTurn rec before [] condition) (cond long (verdict (before ++ rule old (at p b ∷ []) ∷ after)) wrongLength)
-      go true l n e = record {
-        when = (
-          λ z. record { long = eqb-true _ 399 l; turn = e .when .0 z .0; first = refl; holds = means .0 (e .when .0 z .1) },
-          λ w. e .when .1 (w .turn, means .1 (w .holds)),
-        );
-        there = e .there;
-      }
-      go false l n e = never-given n (λ w. eqb-false _ 399 l (w .long))
+  unfolding oneCode oneCodeAnswer
+  one-exactly = row-exactly rec before old p b after condition means (rows .first) (rows .later)
 
   never-new : formerly .code ≡ new → ⊥
   unfolding oneCodeAnswer

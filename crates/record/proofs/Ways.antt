@@ -43,7 +43,7 @@ use Rattle.fields.specs.Numbers.{malformedNumber, absentNumber, numberIn}
 use Rattle.fields.specs.Others.{malformedCountry, absentCountry, malformedEmpty, malformedMain, absentMain}
 use Rattle.fields.specs.Postcodes.{malformedPostcode, absentPostcode}
 use Rattle.fields.specs.Amounts.{malformedWeight, malformedMoney, absentMoney, absentOrZeroMoney}
-use Rattle.fields.specs.Services.{hasCode, malformedServices, servicesIn}
+use Rattle.fields.specs.Services.{hasCode, malformedServices, servicesIn, severalSizes}
 use Rattle.record.specs.declared.readings.Address.{Address}
 use Rattle.record.specs.declared.readings.Street.{Street}
 use Rattle.record.specs.declared.readings.Contact.{Contact}
@@ -213,11 +213,11 @@ pub weight-some : (w : WeightReading) (g : Grams) (s : Bool) → w ≡ Weight.Va
 weight-some w g s e n = rw (e, ne-eqb (g .0) 0 n)
 
 -- ---- money and services
-pub asked-is : (s : Services) (s2 s4 s5 s7 s34 s41 s45 s46 s70 : Bool)
-    → s2 ≡ hasCode s 2 → s4 ≡ hasCode s 4 → s5 ≡ hasCode s 5 → s7 ≡ hasCode s 7 → s34 ≡ hasCode s 34 → s41 ≡ hasCode s 41 → s45 ≡ hasCode s 45 → s46 ≡ hasCode s 46 → s70 ≡ hasCode s 70
-    → record { cashService = s2 || s4 || s5 || s41; service7 = s7; service34 = s34; service41 = s41; service45 = s45; service46 = s46; service70 = s70 } ≡ askedOf s
+pub asked-is : (s : Services) (s2 s4 s5 s7 s34 s41 s45 s46 s70 several : Bool)
+    → s2 ≡ hasCode s 2 → s4 ≡ hasCode s 4 → s5 ≡ hasCode s 5 → s7 ≡ hasCode s 7 → s34 ≡ hasCode s 34 → s41 ≡ hasCode s 41 → s45 ≡ hasCode s 45 → s46 ≡ hasCode s 46 → s70 ≡ hasCode s 70 → several ≡ severalSizes s
+    → record { cashService = s2 || s4 || s5 || s41; service7 = s7; service34 = s34; service41 = s41; service45 = s45; service46 = s46; service70 = s70; severalSizes = several } ≡ askedOf s
 unfolding askedOf
-asked-is s s2 s4 s5 s7 s34 s41 s45 s46 s70 e2 e4 e5 e7 e34 e41 e45 e46 e70 = rw (e2, e4, e5, e7, e34, e41, e45, e46, e70)
+asked-is s s2 s4 s5 s7 s34 s41 s45 s46 s70 several e2 e4 e5 e7 e34 e41 e45 e46 e70 es = rw (e2, e4, e5, e7, e34, e41, e45, e46, e70, es)
 
 pub given-is : (c : Contact) (g : Goods) (m : Marks) (cash noCash price noPrice noSymbol noTelephone noMail : Bool)
     → noCash ≡ absentMoney (g .cash) → noPrice ≡ absentMoney (g .price) → noSymbol ≡ absentNumber (m .symbol) → noTelephone ≡ absentNumber (c .telephone) → noMail ≡ absentText (c .mail)

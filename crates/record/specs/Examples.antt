@@ -10,7 +10,7 @@ use lib.Dec.{eqb}
 use Rattle.text.specs.declared.Answer.{Answer}
 use Rattle.text.specs.Bytes.{every, run}
 use Rattle.text.specs.Lists.{sameBytes}
-use Rattle.text.specs.Numbers.{numberAfter}
+use Rattle.text.specs.Numbers.{numberAfter, digits, decimalPlacesUpTo}
 use Rattle.text.specs.Texts.{bytes, allHold}
 use Rattle.ident.specs.Identifier.{shapeOf, weighted, endsRight, rightId}
 use Rattle.ident.specs.Calls.{partsOf}
@@ -21,11 +21,13 @@ use Rattle.fields.specs.Frame.{framed}
 use Rattle.fields.specs.Dates.{daysIn, readDate, readTime}
 use Rattle.fields.specs.Texts.{filled, contains, isHost, isMail}
 use Rattle.fields.specs.Amounts.{isMoney}
-use Rattle.fields.specs.Services.{codesFrom, hasCode, withCode, added, readServices}
+use Rattle.fields.specs.Codes.{numbersFrom, codes, numberFor}
+use Rattle.fields.specs.Services.{words, hasCode, withCode, added, readBy, howMany, severalSizes}
 use Rattle.fields.specs.Examples.{inField}
 use Rattle.record.specs.Rules.{inFile, toPost, askedOf, givenOf, travelOf, table, recordAnswer, checkAnswer}
 use Rattle.record.specs.Consignors.{consignorOf, strays}
 use Rattle.record.specs.BlankAbroad.{tableBlankAbroad, answerBlankAbroad}
+use Rattle.record.specs.NumbersOnly.{tableNumbersOnly, answerNumbersOnly}
 
 -- ---- a record from the texts of its fields, each with spaces behind to its width
 unfoldable pub laidOut : List ℕ → List String → List ℕ
@@ -83,6 +85,12 @@ weighingNothing cash services symbol =
     recordOf
     ("BO5412345671F" ∷ "20240101" ∷ "08:00:00" ∷ "Eva" ∷ "60200" ∷ "" ∷ "Brno" ∷ "" ∷ "" ∷ "" ∷ "" ∷ "" ∷ "" ∷ "" ∷ " 0.000" ∷ cash ∷ "" ∷ services ∷ "" ∷ "" ∷ symbol ∷ [])
 
+-- with these services
+unfoldable pub served : String → List ℕ
+served services =
+    recordOf
+    ("BO5412345671F" ∷ "20240101" ∷ "08:00:00" ∷ "Eva" ∷ "60200" ∷ "" ∷ "Brno" ∷ "" ∷ "" ∷ "" ∷ "" ∷ "" ∷ "" ∷ "" ∷ " 0.500" ∷ "" ∷ "" ∷ services ∷ [])
+
 unfoldable pub cancelledParcel : List ℕ
 cancelledParcel = parcel "BO3601002032C" "Eva" "0 "
 
@@ -124,6 +132,15 @@ claims =
     ∷ answers 210 19 (checkAnswer true listed cancelledParcel)
     ∷ answers 31 15 (checkAnswer true listed (weighingNothing "10.00" "41" "0000000001"))
     ∷ answers 34 15 (checkAnswer true listed (weighingNothing "10.00" "2" ""))
+    ∷ answers 0 0 (checkAnswer true listed (served "1+1A+XL"))  -- services with letters
+    ∷ answers 210 18 (checkAnswer true listed (served "1a"))
+    ∷ answers 210 18 (checkAnswer true listed (served "M+M"))
+    ∷ answers 220 18 (checkAnswer true listed (served "M+XL"))
+    ∷ answers 220 18 (checkAnswer true listed (served "1N+S+L+M"))
+    ∷ answers 220 18 (checkAnswer true listed (served "34+S+46"))
+    ∷ answers 0 0 (answerNumbersOnly (toPost (holds listed)) (served "1+3"))  -- as it was
+    ∷ answers 220 18 (answerNumbersOnly (toPost (holds listed)) (served "34+46"))
+    ∷ answers 210 18 (answerNumbersOnly (toPost (holds listed)) (served "M+XL"))
     ∷ answers 24 5 (checkAnswer true (60200 ∷ []) domestic)  -- postcodes that do not exist
     ∷ answers 24 5 (checkAnswer true [] domestic)
     ∷ answers 21 5 (checkAnswer true (11000 ∷ []) cashOnDelivery)
@@ -145,5 +162,5 @@ claims =
     ∷ []
 
 pub shown : allHold claims ≡ true
-unfolding risesFrom rightTable holds bytes allHold every run numberAfter sameBytes shapeOf weighted endsRight rightId partsOf fieldOf framed daysIn readDate readTime filled contains isHost isMail isMoney codesFrom hasCode withCode added readServices askedOf givenOf travelOf table recordAnswer checkAnswer tableBlankAbroad answerBlankAbroad inField laidOut recordOf parcel domestic sentTo cashOnDelivery firstPiece firstPieceWrittenOut secondPiece cancelledParcel weighingNothing answers names claims consignorIn anotherIn
+unfolding risesFrom rightTable holds bytes allHold every run numberAfter sameBytes shapeOf weighted endsRight rightId partsOf fieldOf framed daysIn readDate readTime filled contains isHost isMail isMoney digits decimalPlacesUpTo numbersFrom codes numberFor words hasCode withCode added readBy howMany severalSizes askedOf givenOf travelOf table recordAnswer checkAnswer tableBlankAbroad answerBlankAbroad tableNumbersOnly answerNumbersOnly inField laidOut recordOf parcel domestic sentTo cashOnDelivery firstPiece firstPieceWrittenOut secondPiece cancelledParcel weighingNothing served answers names claims consignorIn anotherIn
 shown = refl

@@ -4,6 +4,7 @@ pub mod Readings
 pub mod Rules
 pub mod Consignors
 pub mod BlankAbroad
+pub mod NumbersOnly
 pub mod Codes
 pub mod Outcomes
 pub mod Examples

@@ -1,12 +1,13 @@
 -- What a record's answer means, in the paper's words: 0 exactly if none of the conditions holds; otherwise the first that holds, with its place. And
--- what is wrong with an address, and when a postcode does not exist and the weight is missing, for each of which there are two codes.
+-- what is wrong with an address, when a postcode does not exist and the weight is missing, for each of which there are two codes, and what is wrong with
+-- services.
 -- Assumes nothing.
 use Prim.Native.Nat.{ℕ}
 use mathlib.Core.Path.{_≡_}
 use mathlib.Core.Bool.{Bool, true, false, cond, _&&_}
 use mathlib.Core.List.{List, [], _∷_, _++_}
-use mathlib.Core.Logic.{_↔_}
-use lib.ListN.{length, replicate}
+use mathlib.Core.Logic.{_↔_, _⊎_}
+use lib.ListN.{length, replicate, take}
 use Rattle.text.specs.declared.Answer.{Answer}
 use Rattle.text.specs.Answers.{answer, accepted}
 use Rattle.layout.specs.Layout.{widthOf, fieldOf}
@@ -14,11 +15,13 @@ use Rattle.psc.specs.Table.{Known}
 use Rattle.fields.specs.Texts.{malformedText, absentText}
 use Rattle.fields.specs.Others.{readCountry, malformedCountry, absentCountry}
 use Rattle.fields.specs.Postcodes.{malformedPostcode, absentPostcode}
-use Rattle.fields.specs.Amounts.{absentOrZeroWeight}
+use Rattle.fields.specs.Amounts.{malformedWeight, absentOrZeroWeight, malformedMoney}
+use Rattle.fields.specs.Codes.{sizes, codes, numbersOf}
+use Rattle.fields.specs.ServiceTexts.{GoodServices, TwoOf}
 use Rattle.fields.specs.Meanings.{IsDigits, GoodPostcode}
 use Rattle.record.specs.Table.{Case, Rule, at, placesFrom, broken}
-use Rattle.record.specs.Readings.{whenOf, addressOf, goodsOf}
-use Rattle.record.specs.Rules.{Terms, terms, whenFlags, asksFor, identifierRule, formRules, addressRule, postcodeRules}
+use Rattle.record.specs.Readings.{whenOf, addressOf, streetOf, contactOf, goodsOf, marksOf, pieceOf}
+use Rattle.record.specs.Rules.{Terms, terms, whenFlags, earlyFlags, askedIn, asksFor, givenOf, travelOf, identifierRule, formRules, addressRule, postcodeRules, weightRules, serviceRules}
 
 -- ---- no case, no rule of a list holds
 unfoldable pub noCase : List Case → Bool
@@ -112,6 +115,26 @@ beforeWeight t rec = beforePostcode (t .toBePosted) rec ++ postcodeRules (t .kno
 
 abbrev pub WeightMissing : Terms → List ℕ → Type 0
 WeightMissing t rec = InItsTurn rec (beforeWeight t rec) [] (absentOrZeroWeight (goodsOf rec .weight) ≡ true)
+
+-- ---- 210 at place 18: no field before it is malformed, and the services are neither blank nor the joined texts of different codes
+abbrev pub ServicesMalformed : List ℕ → Type 0
+ServicesMalformed rec =
+    InItsTurn rec (identifierRule rec ∷ [])
+    (placesFrom 2
+    (earlyFlags (whenOf rec) (addressOf rec) (streetOf rec) (contactOf rec)
+    ++ malformedWeight (goodsOf rec .weight) ∷ malformedMoney (goodsOf rec .cash) ∷ malformedMoney (goodsOf rec .price) ∷ []))
+    (GoodServices codes (fieldOf rec 18) → ⊥)
+
+-- ---- 220: two of the services 34, 45 and 46, or two sizes; behind the weight and the four rules on money
+abbrev pub beforeExclusion : Terms → List ℕ → List Rule
+beforeExclusion t rec =
+    beforeWeight t rec
+    ++ (weightRules (goodsOf rec .weight) (asksFor rec 41)
+    ++ take 4 (serviceRules (askedIn (goodsOf rec)) (givenOf (contactOf rec) (goodsOf rec) (marksOf rec)) (travelOf rec (pieceOf rec))))
+
+abbrev pub ServicesExclude : Terms → List ℕ → Type 0
+ServicesExclude t rec =
+    InItsTurn rec (beforeExclusion t rec) [] (TwoOf (asksFor rec) (34 ∷ 45 ∷ 46 ∷ []) ⊎ TwoOf (asksFor rec) (numbersOf sizes))
 
 -- ---- every postcode exists: as it was before there was a table
 abbrev pub anyPostcode : Known

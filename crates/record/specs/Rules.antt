@@ -21,7 +21,7 @@ use Rattle.fields.specs.Numbers.{malformedNumber, absentNumber, numberIn}
 use Rattle.fields.specs.Others.{malformedCountry, absentCountry, malformedEmpty, malformedMain, absentMain}
 use Rattle.fields.specs.Postcodes.{malformedPostcode, absentPostcode}
 use Rattle.fields.specs.Amounts.{malformedWeight, absentOrZeroWeight, malformedMoney, absentMoney, absentOrZeroMoney}
-use Rattle.fields.specs.Services.{hasCode, malformedServices, servicesIn}
+use Rattle.fields.specs.Services.{hasCode, malformedServices, servicesIn, severalSizes}
 use Rattle.record.specs.declared.readings.Address.{Address}
 use Rattle.record.specs.declared.readings.Street.{Street}
 use Rattle.record.specs.declared.readings.Contact.{Contact}
@@ -91,7 +91,7 @@ abbrev pub malformed : Bool → When → Address → Street → Contact → Good
 malformed toBePosted w a s c g m p t = earlyFlags w a s c ++ lateFlags toBePosted g m p t
 
 -- ---- what the rules on money and services ask
--- which services are there; `cashService` is one of 2, 4, 5 and 41
+-- which services are there; `cashService` is one of 2, 4, 5 and 41, `severalSizes` more than one size
 unfoldable pub askedOf : Services → Asked
 askedOf s = record {
   cashService = hasCode s 2 || hasCode s 4 || hasCode s 5 || hasCode s 41;
@@ -101,6 +101,7 @@ askedOf s = record {
   service45 = hasCode s 45;
   service46 = hasCode s 46;
   service70 = hasCode s 70;
+  severalSizes = severalSizes s;
 }
 
 -- those of field 18, as it was read
@@ -192,7 +193,7 @@ serviceRules s f p =
     ∷ rule 11 (at 21 (s .service41 && not (f .symbolFilled)) ∷ [])
     ∷ rule 221 (at 21 (f .symbolFilled && not (s .cashService)) ∷ [])
     ∷ rule 222 (at 17 (s .service7 && f .priceAbsentOrZero || not (s .service7) && f .priceFilled) ∷ [])
-    ∷ rule 220 (at 18 (s .service34 && s .service45 || s .service34 && s .service46 || s .service45 && s .service46) ∷ [])
+    ∷ rule 220 (at 18 (s .service34 && s .service45 || s .service34 && s .service46 || s .service45 && s .service46 || s .severalSizes) ∷ [])
     ∷ rule 223
     (at 12 ((s .service34 || s .service45) && not (f .telephoneFilled))
     ∷ at 13 ((s .service45 || s .service46) && not (f .mailFilled))

@@ -279,7 +279,7 @@ fn weight_answer(weight: WeightReading, service41: bool) -> Answer
 
 // ---- 36 to 72: money and services. The fields are named as the rules have them.
 
-// Which services are there; `cashService` is one of 2, 4, 5 and 41.
+// Which services are there; `cashService` is one of 2, 4, 5 and 41, `severalSizes` two or more of S, M, L and XL.
 pub struct Asked {
     pub cashService: bool,
     pub service7: bool,
@@ -288,6 +288,7 @@ pub struct Asked {
     pub service45: bool,
     pub service46: bool,
     pub service70: bool,
+    pub severalSizes: bool,
 }
 
 fn asked_of(s: Services) -> Asked
@@ -302,6 +303,7 @@ fn asked_of(s: Services) -> Asked
     let service45 = s.has(45);
     let service46 = s.has(46);
     let service70 = s.has(70);
+    let several = s.has_several_sizes();
     Asked {
         cashService: service2 | service4 | service5 | service41,
         service7,
@@ -310,6 +312,7 @@ fn asked_of(s: Services) -> Asked
         service45,
         service46,
         service70,
+        severalSizes: several,
     }
 }
 
@@ -451,7 +454,10 @@ fn service_flags(s: Asked, f: Given, p: Travel) -> [bool; 16]
         s.service41 & !f.symbolFilled,
         f.symbolFilled & !s.cashService,
         s.service7 & f.priceAbsentOrZero | !s.service7 & f.priceFilled,
-        s.service34 & s.service45 | s.service34 & s.service46 | s.service45 & s.service46,
+        s.service34 & s.service45
+            | s.service34 & s.service46
+            | s.service45 & s.service46
+            | s.severalSizes,
         (s.service34 | s.service45) & !f.telephoneFilled,
         (s.service45 | s.service46) & !f.mailFilled,
         s.service70 & !p.setPrefix,

@@ -5,6 +5,9 @@ use Rattle.fields.proofs.ServiceWays.{plus-joins, plus-absent, plus-fai
 use Rattle.fields.proofs.services.behind_plus.Statement.{statement}
 use Rattle.fields.proofs.services.behind_plus.Tie as tie
 
+code-in-requires : tie.Need-code-in-requires
+code-in-requires c κs = search needs
+
 add-code-requires : tie.Need-add-code-requires
 add-code-requires c κs = search needs
 
@@ -29,4 +32,4 @@ returns-3 c = search plus-fails
 pub behind-plus-spec : {M : Type 1} → statement M
 behind-plus-spec =
     tie.close
-    (tie.spec add-code-requires enum-known-more enum-told enum-told-2 returns returns-2 returns-3)
+    (tie.spec code-in-requires add-code-requires enum-known-more enum-told enum-told-2 returns returns-2 returns-3)

@@ -5,13 +5,14 @@ use native.Mathlib.Omega.{arith}
 use mathlib.Core.Path.{_≡_}
 use Prim.Native.Nat.{_-_, _≤_}
 use lib.ListN.{length, drop}
-use Rattle.fields.specs.Services.{codesOf, noServices, added}
+use Rattle.fields.specs.Codes.{codes}
+use Rattle.fields.specs.Services.{numbersIn, noServices, added}
 use Rattle.fields.proofs.ServiceWays.{scanned, scan-start, scan-on, scan-stops, scan-ends}
 use Rattle.fields.proofs.services.scan_services.Statement.{statement}
 use Rattle.fields.proofs.services.scan_services.Tie as tie
 
 abbrev Inv-loop : tie.InvT-loop
-Inv-loop f scan₀ i₀ scan i = (i ≤ length f) × (scanned scan (drop i f) ≡ added noServices (codesOf f))
+Inv-loop f scan₀ i₀ scan i = (i ≤ length f) × (scanned scan (drop i f) ≡ added noServices (numbersIn codes f))
 
 abbrev μ-loop : tie.MeasureT-loop
 μ-loop f scan₀ i₀ scan i = length f - i
@@ -21,9 +22,6 @@ loop-holds c = (omega arith, scan-start (c .before .args .f .now))
 
 shared-slice-read-b : tie.Need-shared-slice-read-b Inv-loop μ-loop
 shared-slice-read-b c = search needs
-
-is-digit-requires : tie.Need-is-digit-requires Inv-loop μ-loop
-is-digit-requires c κs = search needs
 
 sub-finished : tie.Need-sub-finished Inv-loop μ-loop
 sub-finished c = search needs
@@ -75,7 +73,6 @@ scan-services-spec =
     μ-loop
     loop-holds
     shared-slice-read-b
-    is-digit-requires
     sub-finished
     part-finished-start
     part-finished-end

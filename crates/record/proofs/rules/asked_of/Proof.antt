@@ -32,6 +32,9 @@ has-requires-8 c κs = search needs
 has-requires-9 : tie.Need-has-requires-9
 has-requires-9 c κs = search needs
 
+has-several-sizes-requires : tie.Need-has-several-sizes-requires
+has-several-sizes-requires c κs = search needs
+
 returns : tie.Need-returns
 returns c = search asked-is
 
@@ -48,4 +51,5 @@ asked-of-spec =
     has-requires-7
     has-requires-8
     has-requires-9
+    has-several-sizes-requires
     returns)
