@@ -1,26 +1,26 @@
 -- A table with more codes: what was good by the shorter one is read the same by the longer, and so is a field that has none of the new texts in it. So of
 -- the codes with letters behind the numbers.
 -- Assumes nothing.
-use Prim.Native.Nat.{ℕ}
+use Prim.Native.Nat.{ℕ, zero, suc, _+_, _≤_}
 use mathlib.Core.Path.{_≡_, refl, sym, ap, _∙_}
-use mathlib.Core.Bool.{Bool, true, false, cond, not, _&&_, _||_}
+use mathlib.Core.Bool.{Bool, true, false, cond, not, _&&_, _||_, or-true}
 use mathlib.Core.List.{List, [], _∷_, _++_, map}
-use borrow.Author.Tests.{eqb-true, not-true}
-use lib.Dec.{eqb}
+use mathlib.Core.Logic.{_↔_}
+use native.Mathlib.Omega.{arith}
+use borrow.Author.Tests.{eqb-true, eqb-false, eq-eqb, ne-eqb, le-leb, lt-leb, leb-true, leb-false, lt-ltb, le-ltb, ltb-true, not-true}
+use lib.Dec.{eqb, leb, ltb}
 use lib.ListN.{length}
 use Rattle.text.specs.Bytes.{every, isBlank, isCapital}
 use Rattle.text.specs.Lists.{sameBytes}
-use Rattle.text.specs.Numbers.{digits, decimalPlacesUpTo}
+use Rattle.text.specs.Numbers.{digits, decimal, decimalPlacesUpTo}
 use Rattle.text.proofs.Booleans.{clash, both}
 use Rattle.text.proofs.Lists.{same-exactly}
 use Rattle.fields.specs.declared.services.Services.{Services}
-use Rattle.fields.specs.declared.services.ServicesReading.{ServicesReading}
 use Rattle.fields.specs.declared.services.ServicesReading.the-variants.{Absent, Value, Malformed}
-use Rattle.fields.specs.Texts.{contains}
-use Rattle.fields.specs.Codes.{Code, numbersFrom, numbers, lettered, sizes, codes, numberFor, hasNumber, hasText, isCode, toldApart}
+use Rattle.fields.specs.Codes.{Code, numbersFrom, numbers, lettered, sizes, codes, numberFor, textFor, hasNumber, hasText, isCode, toldApart}
 use Rattle.fields.specs.Services.{inFront, words, numbersIn, hasCode, noServices, withCode, added, readBy, readServices, malformedServices, servicesIn, howMany, severalSizes}
-use Rattle.fields.specs.ServiceTexts.{noLetters, Writes}
-use Rattle.fields.proofs.ServicesLaws.{has-none, services-exactly, services-have}
+use Rattle.fields.specs.ServiceTexts.{noLetters, Writes, WritesNumbers}
+use Rattle.fields.proofs.ServicesLaws.{has-none, has-with, services-exactly}
 
 -- ---- a text that is a code stays that code
 more-first : (table more : List Code) (t : List ℕ) → isCode (numberFor table t) ≡ true → numberFor (table ++ more) t ≡ numberFor table t
@@ -120,30 +120,109 @@ unfolding codes readBy
 letterless-as-it-was f h = rw (same-numbers numbers (lettered ++ sizes) (words f) all-lettered (words-bytes (λ b. not (isCapital b)) f h))
 
 -- ---- a set that is read has no other codes than those of the table
-contains-there : (table : List Code) (ns : List ℕ) (k : ℕ) → every (hasNumber table) ns ≡ true → hasNumber table k ≡ false → contains k ns ≡ false
-unfolding every contains
-contains-there table [] k h n = refl
-contains-there table (m ∷ ns) k h n = let p = both (hasNumber table m) (every (hasNumber table) ns) h in go (eqb m k) refl (p .0) (contains-there table ns k (p .1) n)
+number-there : (table : List Code) (t : List ℕ) → isCode (numberFor table t) ≡ true → hasNumber table (numberFor table t) ≡ true
+unfolding numberFor hasNumber
+number-there [] t h = absurd (clash h refl)
+number-there (c ∷ cs) t h = go (sameBytes (c .text) t) (number-there cs t) h
   where
-    go : (q : Bool) → eqb m k ≡ q → hasNumber table m ≡ true → contains k ns ≡ false → (q || contains k ns) ≡ false
-    go true e t r = absurd (clash (ap (hasNumber table) (sym (eqb-true m k e)) ∙ t) n)
-    go false e t r = r
+    go : (q : Bool) → (isCode (numberFor cs t) ≡ true → hasNumber cs (numberFor cs t) ≡ true) → isCode (cond q (c .number) (numberFor cs t)) ≡ true
+        → (eqb (c .number) (cond q (c .number) (numberFor cs t)) || hasNumber cs (cond q (c .number) (numberFor cs t))) ≡ true
+    go true rest h = rw (eq-eqb (c .number) (c .number) refl)
+    go false rest h = rw (rest h) (or-true (eqb (c .number) (numberFor cs t)))
 
-pub only-of-table : (table : List Code) → toldApart table ≡ true → (f : List ℕ) (k : ℕ) → hasNumber table k ≡ false → hasCode (servicesIn (readBy table f)) k ≡ false
-only-of-table table a f k n = go (readBy table f) refl
-  where
-    go : (r : ServicesReading) → readBy table f ≡ r → hasCode (servicesIn r) k ≡ false
-    go Absent e = has-none k
-    go (Value s) e = let p = services-exactly table a f s .0 e in services-have table a f s (p .0) k (p .1) ∙ contains-there table (p .0) k (p .1 .codes) n
-    go Malformed e = has-none k
+module _ (table : List Code) (k : ℕ) (none : hasNumber table k ≡ false) where
+  added-only : (s : Services) (ws : List (List ℕ)) → hasCode s k ≡ false → hasCode (servicesIn (added s (map (numberFor table) ws))) k ≡ false
+  unfolding added
+  added-only s [] h = h
+  added-only s (w ∷ ws) h =
+      go (isCode (numberFor table w)) refl (hasCode s (numberFor table w)) refl (λ g. added-only (withCode s (numberFor table w)) ws g)
+    where
+      other : isCode (numberFor table w) ≡ true → eqb k (numberFor table w) ≡ false
+      other p = ne-eqb k (numberFor table w) (λ e. clash (ap (hasNumber table) e ∙ number-there table w p) none)
 
-numbers-told-apart : toldApart numbers ≡ true
-unfolding toldApart hasNumber hasText sameBytes every numbersFrom digits decimalPlacesUpTo
-numbers-told-apart = refl
+      go : (p : Bool) → isCode (numberFor table w) ≡ p → (q : Bool) → hasCode s (numberFor table w) ≡ q
+          → (hasCode (withCode s (numberFor table w)) k ≡ false → hasCode (servicesIn (added (withCode s (numberFor table w)) (map (numberFor table) ws))) k ≡ false)
+          → hasCode (servicesIn (cond (p && not q) (added (withCode s (numberFor table w)) (map (numberFor table) ws)) Malformed)) k ≡ false
+      go true ep false eq rest = rest (has-with s (numberFor table w) k eq ∙ rw (other ep, h))
+      go true ep true eq rest = has-none k
+      go false ep q eq rest = has-none k
+
+  pub only-of-table : (f : List ℕ) → hasCode (servicesIn (readBy table f)) k ≡ false
+  unfolding readBy
+  only-of-table f = go (eqb (length f) 30) (isBlank f)
+    where
+      go : (l b : Bool) → hasCode (servicesIn (cond l (cond b Absent (added noServices (numbersIn table f))) Malformed)) k ≡ false
+      go true true = has-none k
+      go true false = added-only noServices (words f) (has-none k)
+      go false b = has-none k
 
 -- so where the numbers alone are read there is no size
 pub no-size-in-numbers : (f : List ℕ) → severalSizes (servicesIn (readBy numbers f)) ≡ false
 unfolding severalSizes howMany hasNumber numbersFrom
 no-size-in-numbers f =
-    let none : (k : ℕ) → hasNumber numbers k ≡ false → hasCode (servicesIn (readBy numbers f)) k ≡ false = only-of-table numbers numbers-told-apart f in
+    let none : (k : ℕ) → hasNumber numbers k ≡ false → hasCode (servicesIn (readBy numbers f)) k ≡ false = λ k n. only-of-table numbers k n f in
     rw (none 105 refl, none 106 refl, none 107 refl, none 108 refl)
+
+-- ---- the numbers are those from 1 to 99, each with its decimal text
+numbers-listed : (n k m : ℕ) → hasNumber (numbersFrom n k) m ≡ (leb n m && ltb m (n + k))
+unfolding hasNumber numbersFrom
+numbers-listed n zero m = sym (go (leb n m) refl)
+  where
+    go : (t : Bool) → leb n m ≡ t → (t && ltb m (n + 0)) ≡ false
+    go true e = le-ltb m (n + 0) (omega (arith, leb-true n m e))
+    go false e = refl
+numbers-listed n (suc k) m = rw (numbers-listed (suc n) k m) (go (eqb n m) refl)
+  where
+    go : (t : Bool) → eqb n m ≡ t → (t || leb (suc n) m && ltb m (suc n + k)) ≡ (leb n m && ltb m (n + suc k))
+    go true e = let same = eqb-true n m e in rw (le-leb n m (omega arith), lt-ltb m (n + suc k) (omega arith))
+    go false e = let other = eqb-false n m e in above (leb n m) refl
+      where
+        above : (t : Bool) → leb n m ≡ t → (leb (suc n) m && ltb m (suc n + k)) ≡ (t && ltb m (n + suc k))
+        above true l =
+            let least = leb-true n m l in
+            let sum : suc n + k ≡ n + suc k = omega arith in
+            rw (le-leb (suc n) m (omega (arith, least, eqb-false n m e)), sum)
+        above false l = let less = leb-false n m l in rw (lt-leb (suc n) m (omega arith))
+
+texts-listed : (n k m : ℕ) → hasNumber (numbersFrom n k) m ≡ true → textFor (numbersFrom n k) m ≡ decimal m
+unfolding hasNumber textFor numbersFrom
+texts-listed n zero m h = absurd (clash h refl)
+texts-listed n (suc k) m h = go (eqb n m) refl (texts-listed (suc n) k m) h
+  where
+    go : (t : Bool) → eqb n m ≡ t → (hasNumber (numbersFrom (suc n) k) m ≡ true → textFor (numbersFrom (suc n) k) m ≡ decimal m) → (t || hasNumber (numbersFrom (suc n) k) m) ≡ true
+        → cond t (decimal n) (textFor (numbersFrom (suc n) k) m) ≡ decimal m
+    go true e rest h = ap decimal (eqb-true n m e)
+    go false e rest h = rest h
+
+number-is : (n : ℕ) → hasNumber numbers n ≡ (leb 1 n && leb n 99)
+number-is n = numbers-listed 1 99 n ∙ ap (λ (t : Bool). leb 1 n && t) (go (leb n 99) refl)
+  where
+    go : (t : Bool) → leb n 99 ≡ t → ltb n 100 ≡ t
+    go true e = let l = leb-true n 99 e in lt-ltb n 100 (omega arith)
+    go false e = let l = leb-false n 99 e in le-ltb n 100 (omega arith)
+
+numbers-are : (ns : List ℕ) → every (hasNumber numbers) ns ≡ every (λ n. leb 1 n && leb n 99) ns
+unfolding every
+numbers-are [] = refl
+numbers-are (n ∷ ns) = rw (number-is n, numbers-are ns)
+
+texts-are : (ns : List ℕ) → every (hasNumber numbers) ns ≡ true → map (textFor numbers) ns ≡ map decimal ns
+unfolding every
+texts-are [] h = refl
+texts-are (n ∷ ns) h = let p = both (hasNumber numbers n) (every (hasNumber numbers) ns) h in rw (texts-listed 1 99 n (p .0), texts-are ns (p .1))
+
+numbers-told-apart : toldApart numbers ≡ true
+unfolding toldApart hasNumber hasText sameBytes every numbersFrom digits decimalPlacesUpTo
+numbers-told-apart = refl
+
+-- so by them the field reads as a set exactly if it did when codes were numbers only
+pub numbers-exactly : (f : List ℕ) (s : Services) → (readBy numbers f ≡ Value s) ↔ ((ns : List ℕ) × WritesNumbers f s ns)
+numbers-exactly f s = (λ r. let p = services-exactly numbers numbers-told-apart f s .0 r in (p .0, to (p .0) (p .1)), λ p. services-exactly numbers numbers-told-apart f s .1 (p .0, from (p .0) (p .1)))
+  where
+    to : (ns : List ℕ) → Writes numbers f s ns → WritesNumbers f s ns
+    to ns w = record { some = w .some; codes = sym (numbers-are ns) ∙ w .codes; different = w .different; long = w .long; text = rw (← texts-are ns (w .codes)) (w .text); set = w .set }
+
+    from : (ns : List ℕ) → WritesNumbers f s ns → Writes numbers f s ns
+    from ns w =
+        let all = numbers-are ns ∙ w .codes in
+        record { some = w .some; codes = all; different = w .different; long = w .long; text = rw (texts-are ns all) (w .text); set = w .set }

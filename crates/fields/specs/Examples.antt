@@ -93,11 +93,7 @@ claims =
     ∷ malformedServices (readServices (inField 30 "S+S"))
     ∷ malformedServices (readServices (inField 30 "X"))
     ∷ malformedServices (readServices (inField 30 "1a"))
-    ∷ malformedServices (readServices (inField 30 "1C"))
-    ∷ malformedServices (readServices (inField 30 "XLL"))
-    ∷ malformedServices (readServices (inField 30 "100"))
     ∷ malformedServices (readServices (inField 30 "S M"))
-    ∷ malformedServices (readServices (inField 30 " S"))
     ∷ isDate 20240229 (readDate (bytes "20240229"))  -- 13
     ∷ malformedDate (readDate (bytes "20230229"))  -- 13
     ∷ malformedDate (readDate (bytes "19991231"))  -- 13

@@ -5,7 +5,9 @@ use mathlib.Core.Path.{_≡_}
 use mathlib.Core.Bool.{Bool, true, not, _&&_}
 use mathlib.Core.List.{List, [], _∷_, _++_, map}
 use lib.ListN.{length, replicate}
+use lib.Dec.{leb}
 use Rattle.text.specs.Bytes.{every, isCapital}
+use Rattle.text.specs.Numbers.{decimal}
 use Rattle.layout.specs.Layout.{widthOf}
 use Rattle.fields.specs.declared.services.Services.{Services}
 use Rattle.fields.specs.Texts.{contains}
@@ -42,6 +44,15 @@ pub record Writes (table : List Code) (f : List ℕ) (s : Services) (ns : List �
   pub different : allDifferent ns ≡ true
   pub long : length f ≡ widthOf 18
   pub text : f ≡ servicesText table ns ++ replicate (widthOf 18 - length (servicesText table ns)) 32
+  pub set : s ≡ servicesOf ns
+
+-- the same as it was said when codes were numbers only: one or more from 1 to 99 in decimal, all different
+pub record WritesNumbers (f : List ℕ) (s : Services) (ns : List ℕ) : Type 0 where
+  pub some : 1 ≤ length ns
+  pub codes : every (λ n. leb 1 n && leb n 99) ns ≡ true
+  pub different : allDifferent ns ≡ true
+  pub long : length f ≡ widthOf 18
+  pub text : f ≡ plusJoined (map decimal ns) ++ replicate (widthOf 18 - length (plusJoined (map decimal ns))) 32
   pub set : s ≡ servicesOf ns
 
 -- such a field is blank, or the joined texts of different codes

@@ -76,7 +76,7 @@ fn lettered_in(word: u64) -> u64
     ensures { λ r. ⌜ r ≡ numberAt withLetters word ⌝ }
 {
     let mut i: usize = 0;
-    while i < 9 {
+    while i < LETTERED.len() {
         if LETTERED[i] == word {
             return FIRST_LETTERED + i as u64;
         }
