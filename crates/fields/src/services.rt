@@ -12,9 +12,10 @@ const SERVICES_WIDTH: usize = WIDTHS[18 - 1];
 
 // ---- codes
 
-// A code has a number: 1 to 99 its own, and those with letters one each from here on.
+// Each code has a number: 1 to 99 their own, and those with letters one after the other from here on.
 const FIRST_LETTERED: u64 = 100;
 
+// Of these the sizes, which are asked for.
 const SIZE_S: u64 = 105;
 
 const SIZE_M: u64 = 106;
@@ -23,7 +24,7 @@ const SIZE_L: u64 = 107;
 
 const SIZE_XL: u64 = 108;
 
-// Their texts, each as a word of one byte or two: the next code is a row more.
+// The texts of those with letters, each as a word of one byte or two: the next code is a row more.
 const LETTERED: [u64; 9] = [
     b'1' as u64 * 256 + b'A' as u64,
     b'1' as u64 * 256 + b'B' as u64,
@@ -72,6 +73,7 @@ fn number_in(word: u64) -> u64
     }
 }
 
+// The number of the code with letters that a word is; 0 for other words.
 fn lettered_in(word: u64) -> u64
     ensures { λ r. ⌜ r ≡ numberAt withLetters word ⌝ }
 {

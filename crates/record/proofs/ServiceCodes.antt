@@ -1,10 +1,11 @@
--- What is said of services: 210 at place 18 and 220, exactly.
+-- What is said of services: 210 at place 18 and 220, exactly; and that a code with letters bears on no other rule.
 -- Assumes nothing.
-use Prim.Native.Nat.{ℕ, suc}
+use Prim.Native.Nat.{ℕ, suc, _≤_}
 use mathlib.Core.Path.{_≡_, refl, sym, _∙_}
 use mathlib.Core.Bool.{Bool, true, false, cond, _&&_, _||_}
 use mathlib.Core.List.{List, [], _∷_}
 use mathlib.Core.Logic.{_↔_, _⊎_, inl, inr}
+use native.Mathlib.Omega.{arith}
 use lib.Dec.{ltb}
 use lib.ListN.{drop}
 use Rattle.text.specs.Answers.{answer}
@@ -12,7 +13,8 @@ use Rattle.text.proofs.Booleans.{clash}
 use Rattle.layout.specs.Layout.{fieldOf}
 use Rattle.fields.specs.Texts.{contains}
 use Rattle.fields.specs.Codes.{sizes, codes, numbersOf}
-use Rattle.fields.specs.Services.{malformedServices, servicesIn, howMany, severalSizes}
+use Rattle.fields.specs.declared.services.Services.{Services}
+use Rattle.fields.specs.Services.{hasCode, malformedServices, servicesIn, howMany, severalSizes}
 use Rattle.fields.specs.ServiceTexts.{allDifferent, GoodServices, TwoOf}
 use Rattle.fields.proofs.ServicesLaws.{good-services-exactly, codes-told-apart}
 use Rattle.fields.proofs.HowMany.{several-exactly}
@@ -30,6 +32,12 @@ either-exactly false b = (λ h. inr h, back)
     back : (_≡_ {A = Bool} false true) ⊎ (b ≡ true) → b ≡ true
     back (inl z) = absurd (clash z refl)
     back (inr h) = h
+
+-- ---- letters bear on no other rule: what is asked of two sets that agree up to 99 is the same, but whether there are two sizes
+pub letters-bear-on-no-other : (s t : Services) → ((n : ℕ) → n ≤ 99 → hasCode s n ≡ hasCode t n) → severalSizes s ≡ severalSizes t → askedOf s ≡ askedOf t
+unfolding askedOf
+letters-bear-on-no-other s t same several =
+    rw (same 2 (omega arith), same 4 (omega arith), same 5 (omega arith), same 7 (omega arith), same 34 (omega arith), same 41 (omega arith), same 45 (omega arith), same 46 (omega arith), same 70 (omega arith), several)
 
 module _ (t : Terms) (rec : List ℕ) where
   -- ---- 210
