@@ -308,31 +308,23 @@ module _ (w i r : ℕ) (known : foundFrom i w ≡ r) where
   letters-none h = sym (ap (λ (ks : List ℕ). firstAt (100 + i) ks w) (ended letterWords i h)) ∙ known
 
 -- ---- code_in: a number, or behind the numbers one with letters
-numbers-first : (n k : ℕ) (cs : List Code) (w : ℕ) → 1 ≤ n → 0 < numberAt (numbersFrom n k) w → numberAt (numbersFrom n k ++ cs) w ≡ numberAt (numbersFrom n k) w
+numbers-then : (n k : ℕ) (cs : List Code) (w : ℕ) → 1 ≤ n
+    → numberAt (numbersFrom n k ++ cs) w ≡ cond (ltb 0 (numberAt (numbersFrom n k) w)) (numberAt (numbersFrom n k) w) (numberAt cs w)
 unfolding numbersFrom numberAt
-numbers-first n zero cs w low h = absurd (omega arith)
-numbers-first n (suc k) cs w low h = go (eqb (keyOf (decimal n)) w) (numbers-first (suc n) k cs w (omega arith)) h
+numbers-then n zero cs w low = refl
+numbers-then n (suc k) cs w low = go (eqb (keyOf (decimal n)) w) (numbers-then (suc n) k cs w (omega arith))
   where
-    go : (t : Bool) → (0 < numberAt (numbersFrom (suc n) k) w → numberAt (numbersFrom (suc n) k ++ cs) w ≡ numberAt (numbersFrom (suc n) k) w)
-        → 0 < cond t n (numberAt (numbersFrom (suc n) k) w) → cond t n (numberAt (numbersFrom (suc n) k ++ cs) w) ≡ cond t n (numberAt (numbersFrom (suc n) k) w)
-    go true rest h = refl
-    go false rest h = rest h
-
-numbers-past : (n k : ℕ) (cs : List Code) (w : ℕ) → 1 ≤ n → numberAt (numbersFrom n k) w ≤ 0 → numberAt (numbersFrom n k ++ cs) w ≡ numberAt cs w
-unfolding numbersFrom numberAt
-numbers-past n zero cs w low h = refl
-numbers-past n (suc k) cs w low h = go (eqb (keyOf (decimal n)) w) (numbers-past (suc n) k cs w (omega arith)) h
-  where
-    go : (t : Bool) → (numberAt (numbersFrom (suc n) k) w ≤ 0 → numberAt (numbersFrom (suc n) k ++ cs) w ≡ numberAt cs w)
-        → cond t n (numberAt (numbersFrom (suc n) k) w) ≤ 0 → cond t n (numberAt (numbersFrom (suc n) k ++ cs) w) ≡ numberAt cs w
-    go true rest h = absurd (omega arith)
-    go false rest h = rest h
+    go : (t : Bool) → numberAt (numbersFrom (suc n) k ++ cs) w ≡ cond (ltb 0 (numberAt (numbersFrom (suc n) k) w)) (numberAt (numbersFrom (suc n) k) w) (numberAt cs w)
+        → cond t n (numberAt (numbersFrom (suc n) k ++ cs) w)
+        ≡ cond (ltb 0 (cond t n (numberAt (numbersFrom (suc n) k) w))) (cond t n (numberAt (numbersFrom (suc n) k) w)) (numberAt cs w)
+    go true rest = rw (lt-ltb 0 n low)
+    go false rest = rest
 
 module _ (w n : ℕ) (e : n ≡ numberAt numbers w) where
   pub code-number : 0 < n → n ≡ numberAt codes w
   unfolding codes
-  code-number h = sym (numbers-first 1 99 withLetters w (omega arith) (omega arith) ∙ sym e)
+  code-number h = sym (numbers-then 1 99 withLetters w (omega arith) ∙ rw (← e, lt-ltb 0 n h))
 
   pub code-lettered : (r : ℕ) → n ≤ 0 → r ≡ numberAt withLetters w → r ≡ numberAt codes w
   unfolding codes
-  code-lettered r h g = g ∙ sym (numbers-past 1 99 withLetters w (omega arith) (omega arith))
+  code-lettered r h g = g ∙ sym (numbers-then 1 99 withLetters w (omega arith) ∙ rw (← e, le-ltb 0 n h))
