@@ -1,6 +1,6 @@
 -- Services, field 18: which texts read as a set of codes, and which codes such a set has, by any table of codes whose texts can be told apart.
 -- Assumes nothing.
-use Prim.Native.Nat.{ℕ, zero, suc, _+_, _-_, _≤_}
+use Prim.Native.Nat.{ℕ, _+_, _-_, _≤_}
 use mathlib.Core.Path.{_≡_, refl, sym, ap, _∙_}
 use mathlib.Core.Bool.{Bool, true, false, cond, not, _&&_, _||_, and-eq-true-iff, and-false, and-true, or-true, or-false}
 use mathlib.Core.List.{List, [], _∷_, _++_, map, append-assoc}

@@ -9,7 +9,7 @@ use Rattle.fields.specs.declared.services.Scan.{Scan}
 use Rattle.fields.specs.declared.services.Services.{Services}
 use Rattle.fields.specs.declared.services.ServicesReading.{ServicesReading}
 use Rattle.fields.specs.declared.services.ServicesReading.the-variants.{Absent, Value, Malformed}
-use Rattle.fields.specs.Codes.{Code, numbers, lettered, sizes, codes, isCode}
+use Rattle.fields.specs.Codes.{Code, lettered, sizes, codes, isCode}
 use Rattle.fields.specs.Services.{hasCode, withCode}
 
 -- ---- a word as one number, its bytes as places of 256: 0 for none yet, 65536 for a word that is no code by its length or a byte of it

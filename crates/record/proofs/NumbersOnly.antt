@@ -2,23 +2,22 @@
 -- accepted still, in a file and to be posted.
 -- Assumes nothing.
 use Prim.Native.Nat.{ℕ}
-use mathlib.Core.Path.{_≡_, refl, sym, ap, _∙_}
+use mathlib.Core.Path.{_≡_, refl, ap, _∙_}
 use mathlib.Core.Bool.{Bool, true, false, cond}
-use mathlib.Core.List.{List, [], _∷_, _++_}
+use mathlib.Core.List.{List}
 use native.Mathlib.Omega.{arith}
 use lib.Dec.{eqb}
 use lib.ListN.{length}
 use Rattle.text.specs.declared.Answer.{Answer}
 use Rattle.text.specs.Answers.{wrongLength}
-use Rattle.text.proofs.Booleans.{clash}
 use Rattle.layout.specs.Layout.{fieldOf}
 use Rattle.fields.specs.declared.services.ServicesReading.{ServicesReading}
 use Rattle.fields.specs.Codes.{numbers}
-use Rattle.fields.specs.Services.{readBy, readServices, malformedServices, servicesIn}
+use Rattle.fields.specs.Services.{readBy, readServices, malformedServices}
 use Rattle.fields.specs.ServiceTexts.{noLetters}
 use Rattle.fields.proofs.WiderCodes.{good-as-it-was, letterless-as-it-was, no-size-in-numbers}
 use Rattle.record.specs.declared.readings.Goods.{Goods}
-use Rattle.record.specs.Table.{Rule, broken, anyCase, verdict}
+use Rattle.record.specs.Table.{verdict}
 use Rattle.record.specs.Readings.{whenOf, addressOf, streetOf, contactOf, goodsOf, marksOf, pieceOf, tailOf}
 use Rattle.record.specs.Rules.{Terms, malformed, askedOf, askedIn, table, recordAnswer}
 use Rattle.record.specs.NumbersOnly.{goodsNumbersOnly, rulesFor, tableNumbersOnly, answerNumbersOnly}

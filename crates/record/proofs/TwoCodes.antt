@@ -2,7 +2,7 @@
 -- code for both, which answers move. Over any such pair of rows.
 -- Assumes nothing.
 use Prim.Native.Nat.{ℕ}
-use mathlib.Core.Path.{_≡_, refl, ap, _∙_}
+use mathlib.Core.Path.{_≡_, ap, _∙_}
 use mathlib.Core.Bool.{Bool, true, false, cond}
 use mathlib.Core.List.{List, [], _∷_, _++_, map}
 use mathlib.Core.Logic.{_↔_}
@@ -15,7 +15,7 @@ use Rattle.record.specs.Table.{Rule, at, rule, verdict, codeOf}
 use Rattle.record.specs.Rules.{Terms, twoCodes, table, recordAnswer}
 use Rattle.record.specs.Codes.{lacks}
 use Rattle.record.specs.Outcomes.{ExactlyAt, InItsTurn}
-use Rattle.record.proofs.Codes.{Lacking, lacking}
+use Rattle.record.proofs.Codes.{lacking}
 use Rattle.record.proofs.Order.{none-other}
 use Rattle.record.proofs.Turns.{row-exactly, moved, made-two, new-exactly, old-exactly, answer-moves}
 
