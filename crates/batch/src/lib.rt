@@ -1,4 +1,6 @@
 // The open batch: a lent file buffer, a lent journal and counts by value; additions, amendments, cancellations and undo.
+#![tactic(auto)]
+
 ghost use Rattle.std.specs.Prelude.{◌≡◌, ◌+◌, ◌-◌, ◌*◌, ◌≤◌, ◌<◌, length};
 ghost use Rattle.psc.specs.Search.{found};
 ghost use Rattle.posting.specs.Bounds.{Small};
@@ -47,7 +49,7 @@ const NOTHING_STANDS: Answer = Answer {
 };
 
 // The four totals, the records held and the journal bytes used.
-#[derive(Drop)]
+#[derive(Clone, Copy)]
 pub struct Counts {
     pub totals: Totals,
     pub held: usize,
@@ -55,7 +57,7 @@ pub struct Counts {
 }
 
 // What a call finds before its work: 235, 238 or 237, or 0, the first consignor that the records name, and where the latest entry starts.
-#[derive(Drop)]
+#[derive(Clone, Copy)]
 pub struct Gate {
     pub answer: Answer,
     pub seen: Consignor,
@@ -63,7 +65,7 @@ pub struct Gate {
 }
 
 // What a call gives: its answer and the next counts.
-#[derive(Drop)]
+#[derive(Clone, Copy)]
 pub struct Outcome {
     pub answer: Answer,
     pub counts: Counts,

@@ -14,7 +14,7 @@ use ident::Consignor;
 
 // How far a walk through the journal has come: whether all was well, records held, the first consignor that they name, bytes used, and where
 // the last entry starts.
-#[derive(Drop)]
+#[derive(Clone, Copy)]
 pub struct Reached {
     pub good: bool,
     pub held: usize,
@@ -24,21 +24,21 @@ pub struct Reached {
 }
 
 // Where a consignment stands.
-#[derive(Drop)]
+#[derive(Clone, Copy)]
 pub enum Place {
     At(usize),
     Nowhere,
 }
 
 // Whether an entry passes, and the first consignor that is named with it.
-#[derive(Drop)]
+#[derive(Clone, Copy)]
 pub struct Marking {
     pub good: bool,
     pub seen: Consignor,
 }
 
 // What the test finds: whether something stands in the batch, the first consignor that its records name, and where its latest entry starts.
-#[derive(Drop)]
+#[derive(Clone, Copy)]
 pub struct Finding {
     pub stands: bool,
     pub seen: Consignor,

@@ -1,4 +1,6 @@
 // Closing a file: an accepted one, of which every set that travels together is whole; and the line that reports it.
+#![tactic(auto)]
+
 ghost use Rattle.std.specs.Prelude.{◌≡◌, false, ◌≤◌, ◌<◌, length};
 ghost use Rattle.text.specs.Promises.{Gives};
 ghost use Rattle.posting.specs.File.{record_at, records_in, refused};

@@ -7,7 +7,7 @@ ghost use Rattle.closing.specs.Links.{WholeRecords, Linked, LookedAt, LookedThro
 use crate::links::record_at;
 
 // What the pieces say that were looked at: the same number of pieces all, and no serial twice.
-#[derive(Drop)]
+#[derive(Clone, Copy)]
 struct Said {
     same: bool,
     once: bool,

@@ -21,13 +21,13 @@ const NO_WRITING: Answer = Answer {
     place: 0,
 };
 
-#[derive(Drop)]
+#[derive(Clone, Copy)]
 pub struct Grams(pub u64);
 
-#[derive(Drop)]
+#[derive(Clone, Copy)]
 pub struct Hellers(pub u64);
 
-#[derive(Drop)]
+#[derive(Clone, Copy)]
 pub enum WeightReading {
     Absent,
     Value(Grams),
@@ -46,7 +46,7 @@ impl WeightReading {
     }
 }
 
-#[derive(Drop)]
+#[derive(Clone, Copy)]
 pub enum MoneyReading {
     Absent,
     Value(Hellers),
@@ -86,7 +86,7 @@ impl MoneyReading {
 }
 
 // What two amounts make together.
-#[derive(Drop)]
+#[derive(Clone, Copy)]
 pub enum Sum {
     Total(Hellers),
     TooLarge,

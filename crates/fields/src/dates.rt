@@ -10,7 +10,7 @@ const DATE_WIDTH: usize = WIDTHS[2 - 1];
 const TIME_WIDTH: usize = WIDTHS[3 - 1];
 
 // A date as the number ccyymmdd.
-#[derive(Drop)]
+#[derive(Clone, Copy)]
 pub enum DateReading {
     Value(u64),
     Malformed,
@@ -28,7 +28,7 @@ impl DateReading {
 }
 
 // A time in seconds from midnight.
-#[derive(Drop)]
+#[derive(Clone, Copy)]
 pub enum TimeReading {
     Value(u64),
     Malformed,

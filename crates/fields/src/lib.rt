@@ -1,4 +1,6 @@
 // Readings of a record's fields, an enum per kind: absent, the value as data, or malformed; and the writings of weight and money.
+#![tactic(auto)]
+
 mod amounts; // 15 to 17: weight and money
 mod dates; // 2 and 3: date and time
 mod numbers; // 12, 21, 23, 24: telephone, variable symbol, serial, pieces

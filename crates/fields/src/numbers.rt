@@ -12,7 +12,7 @@ const SYMBOL_WIDTH: usize = WIDTHS[21 - 1];
 // Serial and pieces, 23 and 24, are as wide.
 const COUNT_WIDTH: usize = WIDTHS[23 - 1];
 
-#[derive(Drop)]
+#[derive(Clone, Copy)]
 pub enum NumberReading {
     Absent,
     Value(u64),

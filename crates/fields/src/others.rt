@@ -11,7 +11,7 @@ const STATUS_WIDTH: usize = WIDTHS[19 - 1];
 
 const MAIN_WIDTH: usize = WIDTHS[22 - 1];
 
-#[derive(Drop)]
+#[derive(Clone, Copy)]
 pub enum CountryReading {
     Absent,
     Value(u8, u8),
@@ -41,7 +41,7 @@ impl CountryReading {
     }
 }
 
-#[derive(Drop)]
+#[derive(Clone, Copy)]
 pub enum EmptyReading {
     Absent,
     Malformed,
@@ -58,14 +58,14 @@ impl EmptyReading {
     }
 }
 
-#[derive(Drop)]
+#[derive(Clone, Copy)]
 pub enum StatusReading {
     Live,
     Cancelled,
     Malformed,
 }
 
-#[derive(Drop)]
+#[derive(Clone, Copy)]
 pub enum MainReading {
     Absent,
     Value(Parts),

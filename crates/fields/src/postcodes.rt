@@ -11,7 +11,7 @@ use layout::WIDTHS;
 const POSTCODE_WIDTH: usize = WIDTHS[5 - 1];
 
 // A foreign one by how many bytes stand before the spaces at its end.
-#[derive(Drop)]
+#[derive(Clone, Copy)]
 pub enum PostcodeReading {
     Absent,
     Domestic(u64),

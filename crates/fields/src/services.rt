@@ -100,13 +100,13 @@ fn code_in(word: u64) -> u64
 // ---- sets of codes
 
 // The codes that are present, by their numbers: c is bit c of `low` below 64, else bit c - 64 of `high`.
-#[derive(Drop)]
+#[derive(Clone, Copy)]
 pub struct Services {
     pub low: u64,
     pub high: u64,
 }
 
-#[derive(Drop)]
+#[derive(Clone, Copy)]
 pub enum ServicesReading {
     Absent,
     Value(Services),
@@ -193,7 +193,7 @@ fn add_code(s: Services, code: u64) -> ServicesReading
 // ---- the scan
 
 // What a scan of services knows: the codes before the last "+", the word behind it, its bytes as places of 256, and whether a code was no good.
-#[derive(Drop)]
+#[derive(Clone, Copy)]
 pub struct Scan {
     pub services: Services,
     pub word: u64,

@@ -9,7 +9,7 @@ use layout::WIDTHS;
 const MAIL_WIDTH: usize = WIDTHS[13 - 1];
 
 // A text by how many bytes stand before the spaces at its end.
-#[derive(Drop)]
+#[derive(Clone, Copy)]
 pub enum TextReading {
     Absent,
     Value(usize),

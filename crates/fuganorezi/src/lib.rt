@@ -1,4 +1,6 @@
 // The interface for C, declared in include/fuganorezi.h: byte slices and numbers in, numbers out.
+#![tactic(auto)]
+
 ghost use Rattle.std.specs.Prelude.{◌≡◌, true, false};
 ghost use Rattle.batch.specs.Batch.{no_counts, batch_of, Add, Amend, Cancel, Undo};
 ghost use Rattle.fuganorezi.specs.Calls.{IdentifierChecked, consignor_out, parts_out, no_parts, IdentifierRead, record_out, RecordChecked, answer_of, parts_in, IdentifierWritten, AmountWritten, WeightWritten, TableRead, Answered, FileChecked, ClosingChecked, counts_in, outcome_of, BatchCalled, BatchOpened};
@@ -21,14 +23,14 @@ pub extern "C" fn fuganorezi_identifier_check(bytes: &[u8]) -> u32
 
 // 0 and 0 for nobody's.
 #[repr(C)]
-#[derive(Drop)]
+#[derive(Clone, Copy)]
 pub struct TypeAndNumber {
     pub kind: u32,
     pub number: u64,
 }
 
 #[repr(C)]
-#[derive(Drop)]
+#[derive(Clone, Copy)]
 pub struct IdentifierParts {
     pub first: u8,
     pub second: u8,
@@ -38,7 +40,7 @@ pub struct IdentifierParts {
 }
 
 #[repr(C)]
-#[derive(Drop)]
+#[derive(Clone, Copy)]
 pub struct IdentifierOutcome {
     pub code: u32,
     pub place: u32,
@@ -102,7 +104,7 @@ pub extern "C" fn fuganorezi_identifier_read(bytes: &[u8]) -> IdentifierOutcome
 // ---- one record
 
 #[repr(C)]
-#[derive(Drop)]
+#[derive(Clone, Copy)]
 pub struct RecordOutcome {
     pub code: u32,
     pub place: u32,
@@ -138,7 +140,7 @@ pub extern "C" fn fuganorezi_record_check_posting(bytes: &[u8], table: &[u32]) -
 // ---- the writers: code and place by value
 
 #[repr(C)]
-#[derive(Drop)]
+#[derive(Clone, Copy)]
 pub struct CodeAndPlace {
     pub code: u32,
     pub place: u32,
@@ -192,7 +194,7 @@ pub extern "C" fn fuganorezi_weight_write(bytes: &mut [u8], grams: u64) -> CodeA
 // ---- the table of postcodes from its text
 
 #[repr(C)]
-#[derive(Drop)]
+#[derive(Clone, Copy)]
 pub struct TableOutcome {
     pub code: u32,
     pub place: u32,
@@ -238,7 +240,7 @@ pub extern "C" fn fuganorezi_closing_check(bytes: &[u8], table: &[u32], out: &mu
 // ---- the open batch: its counts go in and come out by value, amounts in haléře as plain numbers
 
 #[repr(C)]
-#[derive(Drop)]
+#[derive(Clone, Copy)]
 pub struct BatchCounts {
     pub live: u64,
     pub cancelled: u64,
@@ -250,7 +252,7 @@ pub struct BatchCounts {
 
 // Code and place of the answer, and the next counts.
 #[repr(C)]
-#[derive(Drop)]
+#[derive(Clone, Copy)]
 pub struct BatchOutcome {
     pub code: u32,
     pub place: u32,

@@ -3,7 +3,7 @@ ghost use Rattle.text.specs.Promises.{Gives};
 ghost use Rattle.ident.specs.Consignor.{another, or_named, type_of, number_of};
 
 // The type of a consignor, the last byte of his identifiers, and his number. CZ names nobody.
-#[derive(Drop)]
+#[derive(Clone, Copy)]
 pub enum Consignor {
     Named(u8, u64),
     Nobody,

@@ -1,4 +1,6 @@
 // The identifier of 13 bytes: whether it is right, its parts, whose it is, writing one, comparing two.
+#![tactic(auto)]
+
 mod consignor;
 
 ghost use Rattle.std.specs.Prelude.{◌≡◌, true, ◌+◌, ◌*◌, ◌^◌, ◌≤◌, ◌<◌, ltb, length, drop};
@@ -17,14 +19,14 @@ use text::{ACCEPTED, Answer, WRONG_LENGTH};
 pub const NOT_RIGHT: Answer = Answer { code: 1, place: 1 };
 
 // How many digits an identifier has by its last byte; none and none where no identifier ends so.
-#[derive(Drop)]
+#[derive(Clone, Copy)]
 pub struct Shape {
     pub consignor: usize,
     pub posting: usize,
 }
 
 // What an identifier says: two bytes of prefix, the last byte, consignor (0 for CZ) and posting number.
-#[derive(Drop)]
+#[derive(Clone, Copy)]
 pub struct Parts {
     pub first: u8,
     pub second: u8,
@@ -47,7 +49,7 @@ impl Parts {
 }
 
 // The parts of a right identifier, which say whose it is, or the refusal.
-#[derive(Drop)]
+#[derive(Clone, Copy)]
 pub enum Reading {
     Right(Parts),
     Refused(Answer),

@@ -1,5 +1,7 @@
 // An index of a file's records by 13 bytes of each: the place of the last record with a key. A caller lends the table that they are noted in.
 // With more slots than records, and the table 0 at first, `find` misses none: `NotedFinds`.
+#![tactic(auto)]
+
 ghost use Rattle.std.specs.Prelude.{◌≡◌, cond, ◌+◌, ◌%◌, ◌≤◌, ◌<◌, ltb, length, set};
 ghost use Rattle.text.specs.Promises.{Gives};
 ghost use Rattle.index.specs.Index.{has_key, named, hash_of, next, slot_of, found, Put};

@@ -1,5 +1,7 @@
 // The checking program: reads a K file from standard input and the postcodes that exist from psc.txt, and prints the line of seven numbers
 // that reports on the file.
+#![tactic(auto)]
+
 ghost use Rattle.std.specs.Prelude.{◌≤◌, length};
 ghost use Rattle.io.specs.Counts.{IsPrefixLen};
 ghost use Rattle.posting.specs.Report.{input_answer, under_text, longest_line, WholeLine};
@@ -8,7 +10,7 @@ use libc::{ENOENT, STDIN_FILENO, STDOUT_FILENO};
 use posting::Reported;
 
 // What was read of psc.txt: whether all of it was, and how many bytes are in the buffer.
-#[derive(Drop)]
+#[derive(Clone, Copy)]
 struct Text {
     whole: bool,
     length: usize,

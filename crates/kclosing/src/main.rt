@@ -1,6 +1,8 @@
 // The program for the closing check: reads a K file from standard input and the postcodes that exist from psc.txt, and prints the line of seven
 // numbers that says whether the file may be closed.
 // Its messages begin as those of the checking program do: both are run by the script `kcheck`.
+#![tactic(auto)]
+
 ghost use Rattle.std.specs.Prelude.{◌%◌, ◌≤◌, ◌<◌, ◌≡◌, length};
 ghost use Rattle.io.specs.Counts.{IsPrefixLen};
 ghost use Rattle.posting.specs.Report.{under_text, longest_line, WholeLine};
@@ -39,7 +41,7 @@ fn print_report(text: &[u8], file: &[u8]) {
 // ---- the table
 
 // What was read of psc.txt: whether all of it was, and how many bytes are in the buffer.
-#[derive(Drop)]
+#[derive(Clone, Copy)]
 struct Text {
     whole: bool,
     length: usize,

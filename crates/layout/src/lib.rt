@@ -1,4 +1,6 @@
 // The record's 26 fields: widths, starts, and a field as a part of the caller's record.
+#![tactic(auto)]
+
 ghost use Rattle.std.specs.Prelude.{◌≡◌, ◌-◌, ◌≤◌, length};
 ghost use Rattle.layout.specs.Widths.{cut};
 ghost use Rattle.layout.specs.Layout.{widths, is_field, Width, Field, FieldAnswered};

@@ -1,4 +1,6 @@
 // A whole K file: the first break of a rule, or the totals; and the line that reports it.
+#![tactic(auto)]
+
 ghost use Rattle.std.specs.Prelude.{◌≡◌, false, ◌+◌, ◌*◌, ◌^◌, ◌≤◌, ◌<◌, ◌∷◌, ◌++◌, [], length, drop};
 ghost use Rattle.psc.specs.Search.{found};
 ghost use Rattle.text.specs.Promises.{Gives, GivesWithin};
@@ -16,7 +18,7 @@ use psc::WRONG_TABLE;
 use text::{ACCEPTED, Answer, WRONG_LENGTH};
 
 // Live and cancelled consignments, and what the live ones bring.
-#[derive(Drop)]
+#[derive(Clone, Copy)]
 pub struct Totals {
     pub live: u64,
     pub cancelled: u64,
@@ -25,14 +27,14 @@ pub struct Totals {
 }
 
 // What two totals make together.
-#[derive(Drop)]
+#[derive(Clone, Copy)]
 pub enum TotalsSum {
     Total(Totals),
     TooLarge,
 }
 
 // Code, number of the record and place of the first break, or 0, 0, 0 and the totals.
-#[derive(Drop)]
+#[derive(Clone, Copy)]
 pub struct FileAnswer {
     pub code: u32,
     pub number: u32,
@@ -41,7 +43,7 @@ pub struct FileAnswer {
 }
 
 // The answer to a request for a line, and how many bytes the line has.
-#[derive(Drop)]
+#[derive(Clone, Copy)]
 pub struct Reported {
     pub answer: Answer,
     pub length: usize,
@@ -95,7 +97,7 @@ pub const OTHER_CONSIGNOR: Answer = Answer {
 };
 
 // What a record breaks, the first consignor that is named up to it, and what it brings to the totals.
-#[derive(Drop)]
+#[derive(Clone, Copy)]
 pub struct Line {
     pub answer: Answer,
     pub seen: Consignor,

@@ -1,4 +1,6 @@
 // The table of postcodes: whether it is right, a number looked up in it, and text read into one.
+#![tactic(auto)]
+
 ghost use Rattle.std.specs.Prelude.{◌≡◌, true, cond, ◌+◌, ◌*◌, ◌≤◌, length, take, drop};
 ghost use Rattle.text.specs.Promises.{Gives};
 ghost use Rattle.text.specs.Lists.{overlay};
@@ -22,7 +24,7 @@ pub const MOST_ENTRIES: usize = 16_000;
 pub const MOST_TEXT: usize = 96_000;
 
 // What reading gives: its answer, and how many entries the table has.
-#[derive(Drop)]
+#[derive(Clone, Copy)]
 pub struct Reading {
     pub answer: Answer,
     pub entries: usize,

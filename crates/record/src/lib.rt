@@ -1,4 +1,6 @@
 // The order of checks in a record: the first rule that is broken gives the answer.
+#![tactic(auto)]
+
 mod columns;
 mod fine;
 mod readings;
@@ -19,14 +21,14 @@ use psc::WRONG_TABLE;
 use text::{ACCEPTED, Answer, WRONG_LENGTH};
 
 // The answer to a record, and beside it, whatever it is, whose identifier stands in field 1.
-#[derive(Drop)]
+#[derive(Clone, Copy)]
 pub struct RecordCheck {
     pub answer: Answer,
     pub consignor: Consignor,
 }
 
 // The same, and beside it what the totals want: what was read of fields 19, 16 and 17.
-#[derive(Drop)]
+#[derive(Clone, Copy)]
 pub struct Judged {
     pub check: RecordCheck,
     pub status: StatusReading,

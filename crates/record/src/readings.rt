@@ -9,14 +9,14 @@ use fields::{
 use layout::WIDTHS;
 
 // Fields 2 and 3.
-#[derive(Drop)]
+#[derive(Clone, Copy)]
 pub struct When {
     pub date: DateReading,
     pub time: TimeReading,
 }
 
 // Fields 4 to 7.
-#[derive(Drop)]
+#[derive(Clone, Copy)]
 pub struct Address {
     pub name: TextReading,
     pub postcode: PostcodeReading,
@@ -25,7 +25,7 @@ pub struct Address {
 }
 
 // Fields 8 to 11.
-#[derive(Drop)]
+#[derive(Clone, Copy)]
 pub struct Street {
     pub district: TextReading,
     pub street: TextReading,
@@ -34,7 +34,7 @@ pub struct Street {
 }
 
 // Fields 12 to 14.
-#[derive(Drop)]
+#[derive(Clone, Copy)]
 pub struct Contact {
     pub telephone: NumberReading,
     pub mail: TextReading,
@@ -42,7 +42,7 @@ pub struct Contact {
 }
 
 // Fields 15 to 19.
-#[derive(Drop)]
+#[derive(Clone, Copy)]
 pub struct Goods {
     pub weight: WeightReading,
     pub cash: MoneyReading,
@@ -52,14 +52,14 @@ pub struct Goods {
 }
 
 // Fields 20 and 21.
-#[derive(Drop)]
+#[derive(Clone, Copy)]
 pub struct Marks {
     pub machine: TextReading,
     pub symbol: NumberReading,
 }
 
 // Fields 22 to 24: which piece this is, of how many that travel together.
-#[derive(Drop)]
+#[derive(Clone, Copy)]
 pub struct Piece {
     pub main: MainReading,
     pub serial: NumberReading,
@@ -67,7 +67,7 @@ pub struct Piece {
 }
 
 // Fields 25 and 26.
-#[derive(Drop)]
+#[derive(Clone, Copy)]
 pub struct Tail {
     pub empty: EmptyReading,
     pub sender: TextReading,

@@ -266,7 +266,7 @@ fn weight_answer(weight: WeightReading, service41: bool) -> Answer
 // ---- 36 to 72: money and services. The fields are named as the rules have them.
 
 // Which services are there; `cash_service` is one of 2, 4, 5 and 41, `several_sizes` two or more of S, M, L and XL.
-#[derive(Drop)]
+#[derive(Clone, Copy)]
 pub struct Asked {
     pub cash_service: bool,
     pub service7: bool,
@@ -304,7 +304,7 @@ fn asked_of(s: Services) -> Asked
 }
 
 // What stands in the fields that services ask for: 16, 17, 21, 12, 13.
-#[derive(Drop)]
+#[derive(Clone, Copy)]
 pub struct Given {
     pub cash_absent_or_zero: bool,
     pub cash_filled: bool,
@@ -340,7 +340,7 @@ fn given_of(c: Contact, g: Goods, m: Marks) -> Given
 }
 
 // What stands in the fields of pieces that travel together: 22, 23, 24.
-#[derive(Drop)]
+#[derive(Clone, Copy)]
 pub struct Travel {
     pub set_prefix: bool,
     pub main_filled: bool,

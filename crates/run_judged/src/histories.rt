@@ -11,7 +11,7 @@ use posting::Totals;
 use text::ACCEPTED;
 
 // The next call of a history: which it is, how long its item is, and how long both are together; 0 where there is none.
-#[derive(Drop)]
+#[derive(Clone, Copy)]
 struct Head {
     op: u8,
     size: usize,
@@ -20,7 +20,7 @@ struct Head {
 
 // How many bytes of a history were answered, 0 where there is nothing to go on with; and behind them the counts, and how many entries the
 // table has.
-#[derive(Drop)]
+#[derive(Clone, Copy)]
 struct Turn {
     taken: usize,
     counts: Counts,

@@ -6,7 +6,7 @@ ghost use Rattle.io.specs.Counts.{IsPrefixLen};
 use libc::STDERR_FILENO;
 
 // What stands next in a file.
-#[derive(Drop)]
+#[derive(Clone, Copy)]
 pub(crate) enum Next {
     // An item of so many bytes.
     Length(usize),
@@ -17,7 +17,7 @@ pub(crate) enum Next {
 }
 
 // What was read of an item: whether all of it was there, and how many bytes of it are in the buffer.
-#[derive(Drop)]
+#[derive(Clone, Copy)]
 pub(crate) struct Taken {
     pub(crate) whole: bool,
     pub(crate) put: usize,

@@ -1,5 +1,7 @@
 // Runs judged cases: for each kind whose file of items is there, each item is answered by a line on standard output.
 // The file's name goes along for what is told on standard error.
+#![tactic(auto)]
+
 mod files;
 mod histories;
 mod items;
@@ -12,7 +14,7 @@ use libc::ENOENT;
 use printing::{print_answer, print_reading};
 
 // What stands behind the table of an item, and so which call answers it.
-#[derive(Drop)]
+#[derive(Clone, Copy)]
 enum Judged {
     Record,
     File,
@@ -20,7 +22,7 @@ enum Judged {
 }
 
 // What the items of a file are.
-#[derive(Drop)]
+#[derive(Clone, Copy)]
 enum Kind {
     Identifiers,
     Parts,

@@ -10,7 +10,7 @@ use ident::Parts;
 use text::Answer;
 
 // What is printed of a reading: 0 absent, 1 a value, 2 malformed; then the value as a number, 0 where there is none.
-#[derive(Drop)]
+#[derive(Clone, Copy)]
 struct Shown {
     how: u64,
     value: u64,
@@ -170,7 +170,7 @@ fn answer_reading(item: &[u8], path: &[u8]) -> bool {
 // ---- a part written
 
 // What is to be written into the lent part.
-#[derive(Drop)]
+#[derive(Clone, Copy)]
 enum Writing {
     Weight(WeightReading),
     Money(MoneyReading),

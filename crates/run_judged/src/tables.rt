@@ -8,7 +8,7 @@ use crate::items::broken;
 pub(crate) const PLACES: usize = psc::MOST_ENTRIES + 1;
 
 // What was read of a table: whether all of it was there, how many entries are in the lent one, and how many bytes of the item stand behind it.
-#[derive(Drop)]
+#[derive(Clone, Copy)]
 pub(crate) struct Front {
     pub(crate) whole: bool,
     pub(crate) entries: usize,

@@ -1,4 +1,6 @@
 // What all parts share: the answer, byte classes, digits and the numbers that they write.
+#![tactic(auto)]
+
 ghost use Rattle.std.specs.Prelude.{◌≡◌, ◌+◌, ◌-◌, ◌^◌, ◌≤◌, ◌<◌, length, take, drop, replicate};
 ghost use Rattle.text.specs.Promises.{Gives, GivesWithin};
 ghost use Rattle.text.specs.Answers.{or_else};
@@ -8,7 +10,7 @@ ghost use Rattle.text.specs.Numbers.{number_of_first, digits, decimal_places};
 ghost use Rattle.text.specs.Words.{word_of};
 
 // What a call answers: the paper's code and place; 0 and 0 where it accepts.
-#[derive(Drop)]
+#[derive(Clone, Copy)]
 pub struct Answer {
     pub code: u32,
     pub place: u32,
