@@ -3,7 +3,7 @@
 -- Assumes nothing.
 use Prim.Native.Nat.{ℕ, zero, suc}
 use mathlib.Core.Path.{◌≡◌, refl, sym, ap, ◌∙◌}
-use mathlib.Core.Bool.{Bool, true, false, cond, not, ◌&&◌, ◌||◌}
+use mathlib.Core.Bool.{Bool, true, false, not, ◌&&◌, ◌||◌}
 use mathlib.Core.List.{List, [], ◌∷◌, ◌++◌}
 use mathlib.Core.Logic.{◌↔◌, ◌⊎◌, inl, inr}
 use native.Mathlib.Omega.{arith}
@@ -14,8 +14,7 @@ use Rattle.text.proofs.Booleans.{clash}
 use Rattle.ident.specs.declared.Parts.{Parts}
 use Rattle.ident.specs.declared.consignor.Consignor.{Consignor}
 use Rattle.ident.specs.declared.consignor.Consignor.TheVariants.{Named, Nobody}
-use Rattle.ident.specs.Identifier.{right_id}
-use Rattle.ident.specs.Calls.{parts_of, can_write, written}
+use Rattle.ident.specs.Calls.{can_write, written}
 use Rattle.ident.specs.Consignor.{whose, consignor_in, type_of, number_of, another, Another, another_in, AnotherIn, AllTheSame, or_named, first_named}
 use Rattle.ident.proofs.RoundTrip.{written_right, written_parts}
 

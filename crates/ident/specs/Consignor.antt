@@ -1,6 +1,6 @@
 -- "One consignor in one file": whose an identifier is, and when two are of different consignors.
 -- Assumes nothing.
-use Rattle.std.specs.Prelude.{ℕ, Bool, true, false, cond, not, ◌&&◌, ◌||◌, ◌≡◌, List, [], ◌∷◌, get_or, eqb}
+use Rattle.std.specs.Prelude.{ℕ, Bool, false, cond, not, ◌&&◌, ◌||◌, ◌≡◌, List, [], ◌∷◌, get_or, eqb}
 use Rattle.ident.specs.declared.Parts.{Parts}
 use Rattle.ident.specs.declared.consignor.Consignor.{Consignor}
 use Rattle.ident.specs.declared.consignor.Consignor.TheVariants.{Named, Nobody}

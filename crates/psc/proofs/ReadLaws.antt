@@ -11,9 +11,7 @@ use lib.Dec.{leb}
 use lib.ListN.{length, take, drop, length-take}
 use lib.Seq.{take-append_seam}
 use Rattle.text.specs.declared.Answer.{Answer}
-use Rattle.text.specs.Answers.{accepted, wrong_length}
 use Rattle.psc.specs.declared.Reading.{Reading}
-use Rattle.psc.specs.Table.{wrong_table}
 use Rattle.psc.specs.Text.{lines_in, table_in, right_text}
 use Rattle.psc.specs.Calls.{TableRead}
 use Rattle.psc.proofs.TableLaws.{right_exactly}
