@@ -69,11 +69,16 @@ def flatten(body, steps):
 
     def path(m):
         fields = [f for f in m.group(2).split(".") if f and f != "before"]
+        # a step named like a lemma that is respelled with `_lem`
+        if fields and fields[0].endswith("_lem") and norm(fields[0][:-4]) in steps:
+            fields[0] = fields[0][:-4]
         if fields and norm(fields[0]) in steps and fields[0] not in ("args", "requires", "ranges"):
             fields[0] = steps[norm(fields[0])]
             if len(fields) > 1:
                 fields[1] = {"taken": "true", "left": "false"}.get(fields[1], fields[1])
-        return ".".join(["c"] + fields)
+        said = ".".join(["c"] + fields)
+        # a test `!b` says now what `b` is
+        return f"(ap not {said})" if len(fields) == 2 and fields[0].startswith("if-not-") and fields[1] in ("true", "false") else said
 
     return re.sub(r"(?<![\w.'-])(" + alt + r")((?:\.[\w₀′'-]+)+)", path, body), aliases
 
@@ -168,6 +173,12 @@ def convert(crate, path, info):
                 kept.append("use %s.{%s}" % (m.group(1), ", ".join(items)))
         return kept
 
+    if any("(ap not " in a for a in answers):
+        whole = "\n".join(uses)
+        if not re.search(r"mathlib\.Core\.Path\.\{[^}]*\bap\b", whole):
+            uses.append("use mathlib.Core.Path.{ap}")
+        if not re.search(r"mathlib\.Core\.Bool\.\{[^}]*\bnot\b", whole):
+            uses.append("use mathlib.Core.Bool.{not}")
     folder = os.path.dirname(path)
     os.remove(path)
     for parts, file, given in ((invariants, "Invariants.antt", "Given"), (answers, "Answers.antt", "Goals")):

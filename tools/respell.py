@@ -48,13 +48,13 @@ def declared():
     found = {}
     for path in files(".antt"):
         parts = path.split(os.sep)
-        if not (parts[2] == "specs" or os.path.basename(path) != "Proof.antt"):
+        if not (parts[2] == "specs" or os.path.basename(path) not in ("Proof.antt", "Answers.antt", "Invariants.antt")):
             continue
         for line in read(path).split("\n"):
             if line.lstrip().startswith(("use ", "--", "pub mod", "mod ", "unfolding", "let ", "open ")):
                 continue
             m = DECLARED.match(line)
-            if m and len(m.group(1)) in (0, 2, 4):
+            if m and len(m.group(1)) % 2 == 0:
                 found.setdefault(m.group(2), set()).add(path)
     return found
 

@@ -83,25 +83,25 @@ module _ (known : Known) (file rec : List ℕ) (held : ℕ) (k : RecordCheck) (e
     amend_live r e = rw (← ea, ← ei) (e ∙ or_second a (live_answer file held id) z)
 
     module _ (n : ℕ) (en : (n ≡ record_number file id held) × (n ≤ held)) where
-      pub add-repeats : (seen : Consignor) → (n ≡ 0 → ⊥) → answer 2 1 ≡ add_answer known file held seen rec
+      pub add_repeats : (seen : Consignor) → (n ≡ 0 → ⊥) → answer 2 1 ≡ add_answer known file held seen rec
       unfolding add_answer
-      add-repeats seen m = rw (← ea, ← ei, ← en.0, ne_eqb n 0 m) (or_second a (answer 2 1) z)
+      add_repeats seen m = rw (← ea, ← ei, ← en.0, ne_eqb n 0 m) (or_second a (answer 2 1) z)
 
       module _ (m : n ≡ 0) (seen : Consignor) (w : Bool) (ew : w ≡ another seen k.consignor) where
         other : another seen (consignor_of rec) ≡ w
         other = ap (λ (x : RecordCheck). another seen x.consignor) (sym ek) ∙ sym ew
 
-        pub add-strays : w ≡ true → answer 241 1 ≡ add_answer known file held seen rec
+        pub add_strays : w ≡ true → answer 241 1 ≡ add_answer known file held seen rec
         unfolding add_answer
-        add-strays t = rw (← ea, other, ← ei, ← en.0, eq-eqb n 0 m, t) (or_second a (answer 241 1) z)
+        add_strays t = rw (← ea, other, ← ei, ← en.0, eq-eqb n 0 m, t) (or_second a (answer 241 1) z)
 
-        pub add-room : w ≡ false → held * 401 + 401 ≤ length file → accepted ≡ add_answer known file held seen rec
+        pub add_room : w ≡ false → held * 401 + 401 ≤ length file → accepted ≡ add_answer known file held seen rec
         unfolding add_answer
-        add-room t h = rw (← ea, other, ← ei, ← en.0, eq-eqb n 0 m, t, le-leb (held * 401 + 401) (length file) h) (or_second a accepted z)
+        add_room t h = rw (← ea, other, ← ei, ← en.0, eq-eqb n 0 m, t, le-leb (held * 401 + 401) (length file) h) (or_second a accepted z)
 
-        pub add-full : w ≡ false → length file < held * 401 + 401 → answer 230 0 ≡ add_answer known file held seen rec
+        pub add_full : w ≡ false → length file < held * 401 + 401 → answer 230 0 ≡ add_answer known file held seen rec
         unfolding add_answer
-        add-full t h = rw (← ea, other, ← ei, ← en.0, eq-eqb n 0 m, t, lt-leb (held * 401 + 401) (length file) h) (or_second a (answer 230 0) z)
+        add_full t h = rw (← ea, other, ← ei, ← en.0, eq-eqb n 0 m, t, lt-leb (held * 401 + 401) (length file) h) (or_second a (answer 230 0) z)
 
 module _ (file id : List ℕ) (held : ℕ) (a : Answer) (ea : Checked id a) where
   pub cancel_broken : (a.code ≡ 0 → ⊥) → a ≡ cancel_answer file held id

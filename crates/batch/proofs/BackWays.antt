@@ -278,27 +278,27 @@ module _ (file journal : List ℕ) (c : Counts) (last : ℕ) where
           some-injective _ _
           (sym ((read_exactly (take last journal) b.all.acts).1 (b.all.sizes, sym b.all.bytes)) ∙ (read_exactly (take last journal) front).1 (sizes, sym l.bytes))
 
-      old-is : old ≡ carried_from (id_of rec) (record_from journal 0) front
-      old-is = ap (λ (k : ℕ). take k (drop (at + 4) journal)) (add-sub_cancel_left (at + 4) 399) ∙ b.is ∙ (λ i. carried_from (amended_id i) (record_from journal 0) (same_acts i))
+      old_is : old ≡ carried_from (id_of rec) (record_from journal 0) front
+      old_is = ap (λ (k : ℕ). take k (drop (at + 4) journal)) (add-sub_cancel_left (at + 4) 399) ∙ b.is ∙ (λ i. carried_from (amended_id i) (record_from journal 0) (same_acts i))
 
       was : Carried known (id_of rec) (records_of front) old
-      was = subst (Carried known (id_of rec) (records_of front)) (sym old-is) (carried_all known (id_of rec) n (length journal) front (record_from journal 0) l.turns)
+      was = subst (Carried known (id_of rec) (records_of front)) (sym old_is) (carried_all known (id_of rec) n (length journal) front (record_from journal 0) l.turns)
 
-      amended-same : record_number file (id_of old) c.held ≡ record_number (zero_filled n (lines_of now)) (id_of old) (length now)
-      amended-same = λ i. record_number (l.filed i) (id_of old) (l.held i)
+      amended_same : record_number file (id_of old) c.held ≡ record_number (zero_filled n (lines_of now)) (id_of old) (length now)
+      amended_same = λ i. record_number (l.filed i) (id_of old) (l.held i)
 
-      amended-sought : Amended file c old
-      amended-sought = record {
+      amended_sought : Amended file c old
+      amended_sought = record {
         sought = record {
           holding = l.holding;
           there = λ z. found_there n now (sheet_step (posted known) (posted_fit known) (records_of front) (n / 401) (Amendment rec) l.sheet l.rule) (id_of old)
-              (before_there n (records_of front) l.sheet l.places rec l.rule old was) (sym amended-same ∙ z);
+              (before_there n (records_of front) l.sheet l.places rec l.rule old was) (sym amended_same ∙ z);
         };
         long = before_long n (records_of front) l.sheet l.places rec l.rule old was;
       }
 
-      amended-back : (r : Counts) (file' : List ℕ) → AmendmentOff file c last old r file' → TakenBack file journal c last r file'
-      amended-back r file' o =
+      amended_back : (r : Counts) (file' : List ℕ) → AmendmentOff file c last old r file' → TakenBack file journal c last r file'
+      amended_back r file' o =
           let many : length now ≡ length (records_of front) = length_map (replaced_by rec) (records_of front) in
           done file journal c last front (Amendment rec) l r file'
           (o.filed ∙ (λ i. with_line (l.filed i) (place_of (l.filed i) (id_of old) (l.held i)) old) ∙ line_back n (records_of front) l.sheet l.places rec l.rule old was)
@@ -379,8 +379,8 @@ module _ (file journal : List ℕ) (c : Counts) (last : ℕ) (pre : Undoable fil
         go (amended e front rec l) = absurd (omega (arith, k, e))
 
     module _ (not1 : kind ≡ 1 → ⊥) (not2 : kind ≡ 2 → ⊥) where
-      pub before-asks : Entries journal last
-      before-asks = go which
+      pub before_asks : Entries journal last
+      before_asks = go which
         where
           go : Which pre.known file journal c last kind → Entries journal last
           go (added e front rec l) = absurd (not1 e)
@@ -391,18 +391,18 @@ module _ (file journal : List ℕ) (c : Counts) (last : ℕ) (pre : Undoable fil
         abbrev before : List ℕ
         before = take (at + 4 + 399 - (at + 4)) (drop (at + 4) journal)
 
-        pub amendment-asks : Amended file c before
-        amendment-asks = go which
+        pub amendment_asks : Amended file c before
+        amendment_asks = go which
           where
             go : Which pre.known file journal c last kind → Amended file c before
             go (added e front rec l) = absurd (not1 e)
             go (cancelled e front id l) = absurd (not2 e)
-            go (amended e front rec l) = amended-sought file journal c last front rec l at b
+            go (amended e front rec l) = amended_sought file journal c last front rec l at b
 
-        pub amendment-done : (r : Counts) (file' : List ℕ) → AmendmentOff file c last before r file' → TakenBack file journal c last r file'
-        amendment-done r file' o = go which
+        pub amendment_done : (r : Counts) (file' : List ℕ) → AmendmentOff file c last before r file' → TakenBack file journal c last r file'
+        amendment_done r file' o = go which
           where
             go : Which pre.known file journal c last kind → TakenBack file journal c last r file'
             go (added e front rec l) = absurd (not1 e)
             go (cancelled e front id l) = absurd (not2 e)
-            go (amended e front rec l) = amended-back file journal c last front rec l at b r file' o
+            go (amended e front rec l) = amended_back file journal c last front rec l at b r file' o

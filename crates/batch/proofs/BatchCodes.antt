@@ -234,10 +234,10 @@ module _ (v : Verdict) (b : Batch) where
     -- no code is met
     pub accepted_exactly : ExactlyAt 0 0 (SomeStands v b (KeepsAll v (file_length b) (journal_length b) a)) (answer_to v b (call_of a))
     unfolding lacks
-    accepted_exactly = behind refl (λ s. keeps-all s)
+    accepted_exactly = behind refl (λ s. keeps_all s)
       where
-        keeps-all : (s : State) → ExactlyAt 0 0 (KeepsAll v (file_length b) (journal_length b) a s) (rule_behind v (file_length b) (journal_length b) s.actions a)
-        keeps-all s = record {
+        keeps_all : (s : State) → ExactlyAt 0 0 (KeepsAll v (file_length b) (journal_length b) a s) (rule_behind v (file_length b) (journal_length b) s.actions a)
+        keeps_all s = record {
           when = (
             λ z. let ok = accepted_if v _ _ _ a z in record { earlier = record { size = eqb-true _ _ ok.size; rules = ok.rule }; room = ok.fits },
             λ k. accepts v _ _ _ a k.earlier.size k.earlier.rules k.room,
@@ -393,12 +393,12 @@ module _ {known : Known} (v : Verdict) (fit : Fit known v) (b : Batch) where
       go (nothing w x) = never_given (λ e. omega (arith, e)) (λ g. g ((lengths_exactly n m).0 w))
       go (by_rules s st) = never_given (never_rules 235 refl refl refl refl refl s call) (λ g. g ((lengths_exactly n m).0 st.lengths))
 
-      of-opening : (t : Bool) → right_lengths n m ≡ t → ExactlyAt 235 0 (GoodBuffers b → ⊥) (cond t accepted (answer 235 0))
-      of-opening true e = never_given (λ z. omega (arith, z)) (λ g. g ((lengths_exactly n m).0 e))
-      of-opening false e = record { when = (λ z. not_good e, λ g. refl); there = λ z. refl }
+      of_opening : (t : Bool) → right_lengths n m ≡ t → ExactlyAt 235 0 (GoodBuffers b → ⊥) (cond t accepted (answer 235 0))
+      of_opening true e = never_given (λ z. omega (arith, z)) (λ g. g ((lengths_exactly n m).0 e))
+      of_opening false e = record { when = (λ z. not_good e, λ g. refl); there = λ z. refl }
 
       by : (call ≡ Open) ⊎ (call ≡ Open → ⊥) → ExactlyAt 235 0 (GoodBuffers b → ⊥) (answer_to v b call)
-      by (inl e) = rw (e, open_answers v b) (of-opening (right_lengths n m) refl)
+      by (inl e) = rw (e, open_answers v b) (of_opening (right_lengths n m) refl)
       by (inr other) = go (meets v b call other)
 
   pub code_237_exactly : (call : Call) → ExactlyAt 237 0 (NothingStands v b call) (answer_to v b call)
@@ -410,11 +410,11 @@ module _ {known : Known} (v : Verdict) (fit : Fit known v) (b : Batch) where
       go other (nothing w x) = record { when = (λ z. record { lengths = (lengths_exactly n m).0 w; other = other; nothing = x }, λ k. refl); there = λ z. refl }
       go other (by_rules s st) = never_given (never_rules 237 refl refl refl refl refl s call) (λ k. k.nothing s st)
 
-      of-opening : Never 237 (answer_to v b Open)
-      of-opening = rw (open_answers v b) (by_cond (Never 237) (right_lengths n m) accepted (answer 235 0) (λ t e. omega (arith, e)) (λ t e. omega (arith, e)))
+      of_opening : Never 237 (answer_to v b Open)
+      of_opening = rw (open_answers v b) (by_cond (Never 237) (right_lengths n m) accepted (answer 235 0) (λ t e. omega (arith, e)) (λ t e. omega (arith, e)))
 
       by : (call ≡ Open) ⊎ (call ≡ Open → ⊥) → ExactlyAt 237 0 (NothingStands v b call) (answer_to v b call)
-      by (inl e) = never_given (rw e of-opening) (λ k. k.other e)
+      by (inl e) = never_given (rw e of_opening) (λ k. k.other e)
       by (inr other) = go other (meets v b call other)
 
   -- 238 is the lent table's alone

@@ -153,26 +153,26 @@ module _ (psc file journal : List ℕ) (c : Counts) (g : Gate) (eg : Guarded psc
         left_as (sym answered) (sym same)
 
     module _ (z : g.answer.code ≡ 0) where
-      pub done-as : (r : Answer) (counts : Counts) (file' journal' : List ℕ) → r ≡ answer_to v this call → batch_of file' journal' counts ≡ after v this call → Called psc this call r counts file' journal'
-      done-as r counts file' journal' answered left = looked_up psc this call r counts file' journal' (eg.if_so z).right (left_as answered left)
+      pub done_as : (r : Answer) (counts : Counts) (file' journal' : List ℕ) → r ≡ answer_to v this call → batch_of file' journal' counts ≡ after v this call → Called psc this call r counts file' journal'
+      done_as r counts file' journal' answered left = looked_up psc this call r counts file' journal' (eg.if_so z).right (left_as answered left)
 
       left_alone : {a : Answer} → (a.code ≡ 0 → ⊥) → answer_to v this call ≡ a → after v this call ≡ this
       unfolding after
       left_alone {a} n e = rw (e, ne_eqb a.code 0 n) ek
 
       pub refused_as : (a : Answer) → answer_to v this call ≡ a → (a.code ≡ 0 → ⊥) → Called psc this call a c file journal
-      refused_as a e n = done-as a c file journal (sym e) (sym (left_alone n e))
+      refused_as a e n = done_as a c file journal (sym e) (sym (left_alone n e))
 
       -- an action, by what its work left: one law for add, amend and cancel
-      pub work-done : (a : Action) (r : Outcome) (file' journal' : List ℕ) → ((s : State) → rules v (length file) (length journal) s call ≡ rule_behind v (length file) (length journal) s.actions a) → ((s : State) → next s call ≡ with s a)
+      pub work_done : (a : Action) (r : Outcome) (file' journal' : List ℕ) → ((s : State) → rules v (length file) (length journal) s call ≡ rule_behind v (length file) (length journal) s.actions a) → ((s : State) → next s call ≡ with s a)
           → Worked (found psc) file journal c g.seen (number_of a) (body_of a) r file' journal' → Called psc this call r.answer r.counts file' journal'
-      work-done a r file' journal' er en w =
+      work_done a r file' journal' er en w =
           let f = (eg.if_so z).found in
           let s = f.what in
           let st = f.stands in
           let first = f.first in
           let answered : answer_to v this call ≡ entry_answer (found psc) this g.seen (number_of a) (body_of a) = answered_by_rules v this s st call ∙ er s ∙ sym (entry_ruled (found psc) this s st a g.seen first) in
-          done-as r.answer r.counts file' journal' (w.answers ∙ sym answered) (w.leaves ∙ go s st first answered (eqb (entry_answer (found psc) this g.seen (number_of a) (body_of a)).code 0) refl)
+          done_as r.answer r.counts file' journal' (w.answers ∙ sym answered) (w.leaves ∙ go s st first answered (eqb (entry_answer (found psc) this g.seen (number_of a) (body_of a)).code 0) refl)
         where
           go : (s : State) (st : Stands v this s) → g.seen ≡ first_of (records_of s.actions) → answer_to v this call ≡ entry_answer (found psc) this g.seen (number_of a) (body_of a) → (t : Bool) → eqb (entry_answer (found psc) this g.seen (number_of a) (body_of a)).code 0 ≡ t
               → cond t (entered this (number_of a) (body_of a)) this ≡ after v this call

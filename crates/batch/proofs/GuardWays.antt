@@ -74,8 +74,8 @@ module _ (psc file journal : List ℕ) (c : Counts) (r : Bool) (e : r ≡ right_
     guard_long = sym e ∙ not-false r n
 
     module _ (t : Bool) (et : t ≡ right_table psc) where
-      pub guard-table : (g : Gate) → not t ≡ true → g ≡ refused_at wrong_table → Guarded psc (batch_of file journal c) g
-      guard-table g w eg = rw eg record {
+      pub guard_table : (g : Gate) → not t ≡ true → g ≡ refused_at wrong_table → Guarded psc (batch_of file journal c) g
+      guard_table g w eg = rw eg record {
         if_so = λ z. absurd (omega (arith, z));
         if_not = λ z. table_answer psc (batch_of file journal c) guard_long (sym et ∙ not-true t w);
       }
@@ -95,8 +95,8 @@ module _ (psc file journal : List ℕ) (c : Counts) (r : Bool) (e : r ≡ right_
               if_not = λ z call other. right_answers psc b call (none_met psc b call right) ∙ none_answer (posted (holds psc)) b guard_long (nothing_stands (posted (holds psc)) b never) call other;
             }
 
-        pub guard-found : not f.stands ≡ false → Guarded psc (batch_of file journal c) (record { answer = accepted; seen = f.seen; last = f.last })
-        guard-found x = record { if_so = λ z. record { right = right; found = d.if_so (not-false f.stands x) }; if_not = λ z. absurd (z refl) }
+        pub guard_found : not f.stands ≡ false → Guarded psc (batch_of file journal c) (record { answer = accepted; seen = f.seen; last = f.last })
+        guard_found x = record { if_so = λ z. record { right = right; found = d.if_so (not-false f.stands x) }; if_not = λ z. absurd (z refl) }
 
 -- ---- writing entries
 pub copied_all : (s t u : List ℕ) (i : ℕ) → length s ≡ length t → length t ≤ i → i ≤ length t → u ≡ take i t ++ drop i s → u ≡ t

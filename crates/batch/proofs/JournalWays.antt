@@ -147,13 +147,13 @@ module _ (j : List ℕ) (end at : ℕ) (a : Bool) (ea : a ≡ head_stands j end 
     kind_two t = rw (← ea, na, ← eb, t)
 
     module _ (nb : b ≡ false) (d : Bool) (ed : d ≡ head_stands j end at 403 147 1 3) where
-      pub kind-three : d ≡ true → 3 ≡ kind_at j end at
+      pub kind_three : d ≡ true → 3 ≡ kind_at j end at
       unfolding kind_at
-      kind-three t = rw (← ea, na, ← eb, nb, ← ed, t)
+      kind_three t = rw (← ea, na, ← eb, nb, ← ed, t)
 
-      pub kind-none : d ≡ false → 0 ≡ kind_at j end at
+      pub kind_none : d ≡ false → 0 ≡ kind_at j end at
       unfolding kind_at
-      kind-none t = rw (← ea, na, ← eb, nb, ← ed, t)
+      kind_none t = rw (← ea, na, ← eb, nb, ← ed, t)
 
 abbrev kind_by : Bool → Bool → Bool → ℕ
 kind_by a b d = cond a 1 (cond b 2 (cond d 3 0))

@@ -94,47 +94,47 @@ module _ (line rec : List ℕ) (cancelled : Bool) (pre : (length line ≡ 401) �
         by_front b (λ q. (same_exactly _ _).0 (sym e ∙ q) ∙ sym plain) (λ q x. clash (e ∙ (same_exactly _ _).1 (x ∙ plain)) q)
 
     module _ (struck : not cancelled ≡ false) where
-      wanted-is : wanted ≡ take 340 rec ++ 48 ∷ 32 ∷ take 57 (drop 342 rec)
-      wanted-is = ap (λ (b : Bool). cond b (cancelled_rec rec) rec) (not-false cancelled struck) ∙ struck_is rec pre.1
+      wanted_is : wanted ≡ take 340 rec ++ 48 ∷ 32 ∷ take 57 (drop 342 rec)
+      wanted_is = ap (λ (b : Bool). cond b (cancelled_rec rec) rec) (not-false cancelled struck) ∙ struck_is rec pre.1
 
       front_long : length (take 340 rec) ≡ 340
       front_long = length-take-le 340 rec (omega (arith, pre.1))
 
-      line-cut : take 399 line ≡ take 340 line ++ get_or line 340 0 ∷ get_or line 341 0 ∷ take 57 (drop 342 line)
-      line-cut = cut_status line (omega (arith, pre.0))
+      line_cut : take 399 line ≡ take 340 line ++ get_or line 340 0 ∷ get_or line 341 0 ∷ take 57 (drop 342 line)
+      line_cut = cut_status line (omega (arith, pre.0))
 
-      line-front-long : length (take 340 line) ≡ 340
-      line-front-long = length-take-le 340 line (omega (arith, pre.0))
+      line_front_long : length (take 340 line) ≡ 340
+      line_front_long = length-take-le 340 line (omega (arith, pre.0))
 
       -- the parts of a line that is as wanted
       module _ (x : take 399 line ≡ wanted) where
         both : take 340 line ++ get_or line 340 0 ∷ get_or line 341 0 ∷ take 57 (drop 342 line) ≡ take 340 rec ++ 48 ∷ 32 ∷ take 57 (drop 342 rec)
-        both = sym line-cut ∙ x ∙ wanted-is
+        both = sym line_cut ∙ x ∙ wanted_is
 
-        same-front : take 340 line ≡ take 340 rec
-        same-front = sym (take_at (take 340 line) _ 340 line-front-long) ∙ ap (take 340) both ∙ take_at (take 340 rec) _ 340 front_long
+        same_front : take 340 line ≡ take 340 rec
+        same_front = sym (take_at (take 340 line) _ 340 line_front_long) ∙ ap (take 340) both ∙ take_at (take 340 rec) _ 340 front_long
 
-        same-behind : get_or line 340 0 ∷ get_or line 341 0 ∷ take 57 (drop 342 line) ≡ 48 ∷ 32 ∷ take 57 (drop 342 rec)
-        same-behind = sym (drop_at (take 340 line) _ 340 line-front-long) ∙ ap (drop 340) both ∙ drop_at (take 340 rec) _ 340 front_long
+        same_behind : get_or line 340 0 ∷ get_or line 341 0 ∷ take 57 (drop 342 line) ≡ 48 ∷ 32 ∷ take 57 (drop 342 rec)
+        same_behind = sym (drop_at (take 340 line) _ 340 line_front_long) ∙ ap (drop 340) both ∙ drop_at (take 340 rec) _ 340 front_long
 
       abbrev marked : Bool
       marked = eqb (get_or line 340 0) 48 && eqb (get_or line 341 0) 32
 
-      pub line-live : not marked ≡ true → LineSame line rec cancelled false
-      line-live n = by_front false (λ q. absurd (clash q refl)) (λ q x.
-          clash (rw (eq-eqb (get_or line 340 0) 48 (ap (λ (t : List ℕ). get_or t 0 0) (same-behind x)), eq-eqb (get_or line 341 0) 32 (ap (λ (t : List ℕ). get_or t 1 0) (same-behind x)))) (not-true marked n))
+      pub line_live : not marked ≡ true → LineSame line rec cancelled false
+      line_live n = by_front false (λ q. absurd (clash q refl)) (λ q x.
+          clash (rw (eq-eqb (get_or line 340 0) 48 (ap (λ (t : List ℕ). get_or t 0 0) (same_behind x)), eq-eqb (get_or line 341 0) 32 (ap (λ (t : List ℕ). get_or t 1 0) (same_behind x)))) (not-true marked n))
 
       pub line_other : (b : Bool) → b ≡ same_bytes (take 340 line) (take 340 rec) → not b ≡ true → LineSame line rec cancelled false
-      line_other b e n = by_front false (λ q. absurd (clash q refl)) (λ q x. clash (e ∙ (same_exactly _ _).1 (same-front x)) (not-true b n))
+      line_other b e n = by_front false (λ q. absurd (clash q refl)) (λ q x. clash (e ∙ (same_exactly _ _).1 (same_front x)) (not-true b n))
 
-      pub line-struck : (b : Bool) → b ≡ same_bytes (take 340 line) (take 340 rec) → not b ≡ false → not marked ≡ false
+      pub line_struck : (b : Bool) → b ≡ same_bytes (take 340 line) (take 340 rec) → not b ≡ false → not marked ≡ false
           → (r : Bool) → r ≡ same_bytes (take 57 (drop 342 line)) (take 57 (drop 342 rec)) → LineSame line rec cancelled r
-      line-struck b e n m r er =
+      line_struck b e n m r er =
           let p = (and-eq-true_iff (eqb (get_or line 340 0) 48) (eqb (get_or line 341 0) 32)).0 (not-false marked m) in
           let front = (same_exactly _ _).0 (sym e ∙ not-false b n) in
           by_front r
-          (λ q. line-cut ∙ (λ i. front i ++ eqb-true (get_or line 340 0) 48 p.0 i ∷ eqb-true (get_or line 341 0) 32 p.1 i ∷ (same_exactly _ _).0 (sym er ∙ q) i) ∙ sym wanted-is)
-          (λ q x. clash (er ∙ (same_exactly _ _).1 (ap (drop 2) (same-behind x))) q)
+          (λ q. line_cut ∙ (λ i. front i ++ eqb-true (get_or line 340 0) 48 p.0 i ∷ eqb-true (get_or line 341 0) 32 p.1 i ∷ (same_exactly _ _).0 (sym er ∙ q) i) ∙ sym wanted_is)
+          (λ q x. clash (er ∙ (same_exactly _ _).1 (ap (drop 2) (same_behind x))) q)
 
 -- ---- all places
 module _ (file journal : List ℕ) (held : ℕ) (marks : List ℕ) (pre : Marked file journal held marks) (k : ℕ) (low : k < held) where

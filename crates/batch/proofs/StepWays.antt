@@ -115,23 +115,23 @@ module _ (file journal : List ℕ) (end held used : ℕ) (marks table : List ℕ
     step_ends = omega (arith, long_is, here.within, pre.within)
 
     module _ (seen : Consignor) (r : Marking) (marks' table' : List ℕ) {known : Known} (m : MarkedEntry known file held seen used kind (take (used + 4 + n - (used + 4)) (drop (used + 4) journal)) marks table r marks' table') where
-      part-is : (a : Action) → kind ≡ number_of a → body_at journal used (number_of a) ≡ body_of a → body_of a ≡ take (used + 4 + n - (used + 4)) (drop (used + 4) journal)
-      part-is a k b =
+      part_is : (a : Action) → kind ≡ number_of a → body_at journal used (number_of a) ≡ body_of a → body_of a ≡ take (used + 4 + n - (used + 4)) (drop (used + 4) journal)
+      part_is a k b =
           sym b ∙ ap (λ (w : ℕ). take (body_length w) (drop (used + 4) journal)) (sym k) ∙ ap (λ (w : ℕ). take w (drop (used + 4) journal)) (sym en.0 ∙ sym (add-sub_cancel_left (used + 4) n))
 
-      pub step-judged : (h : ℕ) → h ≡ action_held held kind → Stepped known file journal end held seen used marks table (record { good = r.good; held = h; seen = r.seen; used = used + 4 + n; last = used }) marks' table'
-      step-judged h eh =
+      pub step_judged : (h : ℕ) → h ≡ action_held held kind → Stepped known file journal end held seen used marks table (record { good = r.good; held = h; seen = r.seen; used = used + 4 + n; last = used }) marks' table'
+      step_judged h eh =
           record {
             if_so = λ q. record {
               action = here.act;
               entry = record { size = sized_so here.act here.sized; bytes = here.bytes; within = here.within };
-              taken = (m.judges here.act (sym kind_is) (part-is here.act kind_is here.body)).if_so q;
+              taken = (m.judges here.act (sym kind_is) (part_is here.act kind_is here.body)).if_so q;
               holds = eh ∙ ap (action_held held) kind_is ∙ held_same held here.act;
               moves = omega (arith, long_is);
               from = refl;
             };
             if_not = λ q a e p.
                 let k : kind ≡ number_of a = ek ∙ kind_read journal end used pre.within a e in
-                (m.judges a (sym k) (part-is a k (body_read journal end used pre.within a e))).if_not q p;
+                (m.judges a (sym k) (part_is a k (body_read journal end used pre.within a e))).if_not q p;
             long = m.long;
           }

@@ -105,8 +105,8 @@ module _ (known : Known) (file : List ℕ) (held : ℕ) (seen : Consignor) (used
       other : another seen (consignor_of rec) ≡ w
       other = ap (λ (x : RecordCheck). another seen x.consignor) (sym ek) ∙ sym ew
 
-      pub added-strays : (r : Marking) → r.good ≡ false → w ≡ true → Added known file held seen used rec marks table r marks table
-      added-strays r f t = not_added r table f refl (λ p. clash (other ∙ t) p.same)
+      pub added_strays : (r : Marking) → r.good ≡ false → w ≡ true → Added known file held seen used rec marks table r marks table
+      added_strays r f t = not_added r table f refl (λ p. clash (other ∙ t) p.same)
 
   module _ (id : List ℕ) (its : id ≡ field_of rec 1) (same : Bool) (es : same ≡ same_bytes (take (held * 401 + 13 - held * 401) (drop (held * 401) file)) id) where
     own_key : same ≡ same_bytes (key_at file 0 held) (id_of rec)
@@ -116,31 +116,31 @@ module _ (known : Known) (file : List ℕ) (held : ℕ) (seen : Consignor) (used
     added_other r f n = not_added r table f refl (λ p. clash (own_key ∙ (same_exactly _ _).1 p.own) (not-true same n))
 
     module _ (n : not same ≡ false) (marking : Noted file held marks table) (t : ℕ) (table' : List ℕ) (put : Put table file 0 held t table') where
-      own-here : key_at file 0 held ≡ id_of rec
-      own-here = (same_exactly _ _).0 (sym own_key ∙ not-false same n)
+      own_here : key_at file 0 held ≡ id_of rec
+      own_here = (same_exactly _ _).0 (sym own_key ∙ not-false same n)
 
       before_is : t ≡ seek file 0 (id_of rec) held
-      before_is = put.before ∙ marking.noted.finds (key_at file 0 held) ∙ ap (λ (k : List ℕ). seek file 0 k held) own-here
+      before_is = put.before ∙ marking.noted.finds (key_at file 0 held) ∙ ap (λ (k : List ℕ). seek file 0 k held) own_here
 
-      long-still : length table' ≡ length table
-      long-still = ap length put.notes ∙ length_noting table file 0 held
+      long_still : length table' ≡ length table
+      long_still = ap length put.notes ∙ length_noting table file 0 held
 
       pub added_twice : (r : Marking) → r.good ≡ false → (t ≡ 0 → ⊥) → Added known file held seen used rec marks table r marks table'
-      added_twice r f z = not_added r table' f long-still (λ p. z (before_is ∙ p.new))
+      added_twice r f z = not_added r table' f long_still (λ p. z (before_is ∙ p.new))
 
-      pub added-now : 401 ≤ length file - held * 401 → (k : RecordCheck) → k ≡ with_consignor (posted known rec) rec → k.answer.code ≡ 0 → (w : Bool) → w ≡ another seen k.consignor → w ≡ false → t ≡ 0
+      pub added_now : 401 ≤ length file - held * 401 → (k : RecordCheck) → k ≡ with_consignor (posted known rec) rec → k.answer.code ≡ 0 → (w : Bool) → w ≡ another seen k.consignor → w ≡ false → t ≡ 0
           → (n : Consignor) → n ≡ or_named seen k.consignor → Added known file held seen used rec marks table (record { good = true; seen = n }) (set marks held (used * 2)) table'
-      added-now h k ek z w ew f u n en =
+      added_now h k ek z w ew f u n en =
           let room : held * 401 + 401 ≤ length file = omega (arith, h) in
           record {
             if_so = λ q. record {
-              passes = record { room = room; good = ap (λ (x : RecordCheck). x.answer.code) (sym ek) ∙ z; same = other k ek w ew ∙ f; own = own-here; new = sym before_is ∙ u };
+              passes = record { room = room; good = ap (λ (x : RecordCheck). x.answer.code) (sym ek) ∙ z; same = other k ek w ew ∙ f; own = own_here; new = sym before_is ∙ u };
               now_seen = en ∙ ap (λ (x : RecordCheck). or_named seen x.consignor) ek;
               now_marks = refl;
               noted = subst (Indexed file 0 (held + 1)) (sym put.notes) (indexed_more file 0 held table marking.noted (omega (arith, room, marking.room)) (omega (arith, marking.few)) (key_of_record file 0 held (omega arith) room));
             };
             if_not = λ q. absurd (clash refl q);
-            long = long-still;
+            long = long_still;
           }
 
 -- ---- an amendment, and a cancellation

@@ -55,48 +55,48 @@ module _ (file journal : List ℕ) (c : Counts) (marks table : List ℕ) (pre : 
       there : Walked known file journal r.held r.seen c.used r.last marks' table'
       there = wt.if_so (not-false r.good walked)
 
-      pub test-held : (f : Finding) → f.stands ≡ false → (r.held ≡ c.held → ⊥) → Tested known b f
-      test-held f e n = none_stands b f e (held_wrong file journal c r.held r.seen r.last marks' table' pre.lengths there n)
+      pub test_held : (f : Finding) → f.stands ≡ false → (r.held ≡ c.held → ⊥) → Tested known b f
+      test_held f e n = none_stands b f e (held_wrong file journal c r.held r.seen r.last marks' table' pre.lengths there n)
 
       module _ (same : r.held ≡ c.held) where
         w : Walked known file journal c.held r.seen c.used r.last marks' table'
         w = subst (λ (h : ℕ). Walked known file journal h r.seen c.used r.last marks' table') same there
 
-        pub test-marked : Marked file journal c.held marks'
-        test-marked = marked_so file journal c c.held r.seen r.last marks' table' pre.lengths w bounds.1
+        pub test_marked : Marked file journal c.held marks'
+        test_marked = marked_so file journal c c.held r.seen r.last marks' table' pre.lengths w bounds.1
 
         pub held_fits : Fits w64 (c.held * 401)
         held_fits = record { fits = omega (arith, w.marking.few) }
 
-        pub held-inside : c.held * 401 ≤ length file
-        held-inside = w.marking.places
+        pub held_inside : c.held * 401 ≤ length file
+        held_inside = w.marking.places
 
-        pub held-few : c.held ≤ 999
-        held-few = w.marking.few
+        pub held_few : c.held ≤ 999
+        held_few = w.marking.few
 
         module _ (ls : Bool) (l : LinesSame file journal c.held marks' ls) where
-          pub test-lines : (f : Finding) → f.stands ≡ false → not ls ≡ true → Tested known b f
-          test-lines f e n = none_stands b f e (lines_wrong file journal c c.held r.seen r.last marks' table' pre.lengths w (l.if_not (not-true ls n)))
+          pub test_lines : (f : Finding) → f.stands ≡ false → not ls ≡ true → Tested known b f
+          test_lines f e n = none_stands b f e (lines_wrong file journal c c.held r.seen r.last marks' table' pre.lengths w (l.if_not (not-true ls n)))
 
           module _ (alike : not ls ≡ false) (z : Bool) (ez : z ≡ every is_zero (take (length file - c.held * 401) (drop (c.held * 401) file))) where
             rest_is : every is_zero (drop (c.held * 401) file) ≡ z
             rest_is = ap (every is_zero) (sym (take_all (length file - c.held * 401) (drop (c.held * 401) file) (omega (arith, length-drop (c.held * 401) file)))) ∙ sym ez
 
-            pub test-rest : (f : Finding) → f.stands ≡ false → not z ≡ true → Tested known b f
-            test-rest f e n = none_stands b f e (rest_wrong file journal c c.held r.seen r.last marks' table' pre.lengths w (rest_is ∙ not-true z n))
+            pub test_rest : (f : Finding) → f.stands ≡ false → not z ≡ true → Tested known b f
+            test_rest f e n = none_stands b f e (rest_wrong file journal c c.held r.seen r.last marks' table' pre.lengths w (rest_is ∙ not-true z n))
 
             module _ (clear : not z ≡ false) (y : Bool) (ey : y ≡ every is_zero (take (length journal - c.used) (drop c.used journal))) where
-              behind-is : every is_zero (drop c.used journal) ≡ y
-              behind-is = ap (every is_zero) (sym (take_all (length journal - c.used) (drop c.used journal) (omega (arith, length-drop c.used journal)))) ∙ sym ey
+              behind_is : every is_zero (drop c.used journal) ≡ y
+              behind_is = ap (every is_zero) (sym (take_all (length journal - c.used) (drop c.used journal) (omega (arith, length-drop c.used journal)))) ∙ sym ey
 
-              pub test-behind : (f : Finding) → f.stands ≡ false → not y ≡ true → Tested known b f
-              test-behind f e n = none_stands b f e (journal_wrong file journal c c.held r.seen r.last marks' table' pre.lengths w (behind-is ∙ not-true y n))
+              pub test_behind : (f : Finding) → f.stands ≡ false → not y ≡ true → Tested known b f
+              test_behind f e n = none_stands b f e (journal_wrong file journal c c.held r.seen r.last marks' table' pre.lengths w (behind_is ∙ not-true y n))
 
-              pub test-told : not y ≡ false → c.used ≤ length journal → (t : Totals) → t ≡ totals_over file c.held → (s : Bool) → s ≡ same_totals t c.totals → Tested known b (record { stands = s; seen = r.seen; last = r.last })
-              test-told n within t et s es = record {
-                if_so = λ q. test_passes file journal c c.held r.seen r.last marks' table' pre.lengths w refl (l.if_so (not-false ls alike)) (rest_is ∙ not-false z clear) (behind-is ∙ not-false y n) within
+              pub test_told : not y ≡ false → c.used ≤ length journal → (t : Totals) → t ≡ totals_over file c.held → (s : Bool) → s ≡ same_totals t c.totals → Tested known b (record { stands = s; seen = r.seen; last = r.last })
+              test_told n within t et s es = record {
+                if_so = λ q. test_passes file journal c c.held r.seen r.last marks' table' pre.lengths w refl (l.if_so (not-false ls alike)) (rest_is ∙ not-false z clear) (behind_is ∙ not-false y n) within
                     (sym et ∙ totals_same t c.totals (sym es ∙ q));
-                if_not = λ q. totals_wrong file journal c c.held r.seen r.last marks' table' pre.lengths w refl (l.if_so (not-false ls alike)) (rest_is ∙ not-false z clear) (behind-is ∙ not-false y n) within
+                if_not = λ q. totals_wrong file journal c c.held r.seen r.last marks' table' pre.lengths w refl (l.if_so (not-false ls alike)) (rest_is ∙ not-false z clear) (behind_is ∙ not-false y n) within
                     (λ e. clash (es ∙ totals_alike t c.totals (et ∙ e)) q);
               }
 

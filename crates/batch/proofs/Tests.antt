@@ -108,8 +108,8 @@ module _ {known : Known} (file journal : List ℕ) (c : Counts) (held : ℕ) (se
     bounded = bounded;
   }
     where
-      record-long : (k : ℕ) → length (marked_record journal k) ≡ length (record_from journal (k / 2))
-      record-long k = go (odd k)
+      record_long : (k : ℕ) → length (marked_record journal k) ≡ length (record_from journal (k / 2))
+      record_long k = go (odd k)
         where
           go : (t : Bool) → length (cond t (cancelled_rec (record_from journal (k / 2))) (record_from journal (k / 2))) ≡ length (record_from journal (k / 2))
           go true = cancelled_rec_long (record_from journal (k / 2))
@@ -117,7 +117,7 @@ module _ {known : Known} (file journal : List ℕ) (c : Counts) (held : ℕ) (se
 
       mark_there : (i : ℕ) → i < held → get_or marks i 0 / 2 + 403 ≤ length journal
       mark_there i h =
-          let long : length (record_from journal (get_or marks i 0 / 2)) ≡ 399 = sym (record-long (get_or marks i 0)) ∙ ap length (sym (w.named i h)) ∙ longs i (omega (arith, h, w.many)) in
+          let long : length (record_from journal (get_or marks i 0 / 2)) ≡ 399 = sym (record_long (get_or marks i 0)) ∙ ap length (sym (w.named i h)) ∙ longs i (omega (arith, h, w.many)) in
           omega (arith, long, length-take 399 (drop (get_or marks i 0 / 2 + 4) journal), length-drop (get_or marks i 0 / 2 + 4) journal)
 
   -- whatever stands is the list that was walked

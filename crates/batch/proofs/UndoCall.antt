@@ -21,7 +21,7 @@ use Rattle.batch.proofs.ZeroFilled.{filled_less}
 use Rattle.batch.proofs.Reading.{entry_some}
 use Rattle.batch.proofs.Verdicts.{posted_fit}
 use Rattle.batch.proofs.Made.{entries_last, turns_fit, answered_by_rules, accepted_leaves}
-use Rattle.batch.proofs.CallWays.{is_other, refused_as, done-as}
+use Rattle.batch.proofs.CallWays.{is_other, refused_as, done_as}
 
 latest_split : (a : Action) (xs : List Action) → (l : Action) × (without_latest (a ∷ xs) ++ l ∷ [] ≡ a ∷ xs)
 latest_split a [] = (a, refl)
@@ -98,5 +98,5 @@ module _ (psc file journal : List ℕ) (c : Counts) (g : Gate) (eg : Guarded psc
     undo_done r file' journal' t ej =
         let left : after (posted (found psc)) this Undo ≡ back = accepted_leaves (posted (found psc)) this here.what here.stands Undo (ap (λ (x : Answer). x.code) accepts) in
         let made_so : batch_of file' journal' r ≡ back = λ i. batch_of (t.filed (found psc) here.what here.stands i) ((ej ∙ journal_back) i) (t.counted (found psc) here.what here.stands i) in
-        done-as psc file journal c g eg Undo (is_other Undo refl) refl z accepted r file' journal'
+        done_as psc file journal c g eg Undo (is_other Undo refl) refl z accepted r file' journal'
         (sym (answered_by_rules (posted (found psc)) this here.what here.stands Undo ∙ accepts)) (made_so ∙ sym left)

@@ -286,16 +286,16 @@ module _ (file : List ℕ) (last pieces : ℕ) (said : Said) (seen : List ℕ) (
     out_repeated n = record { each = λ main e p. rw (same_is main e p, not-false said.same same, ← (looked.each main e).once, not-true said.once n) }
 
     module _ (once : not said.once ≡ false) (small : pieces < 100) (b : Bool) (eb : b ≡ all_marked seen pieces) where
-      last-test : (place : ℕ) → place ≡ cond b 0 22 → Judged file last pieces place
+      last_test : (place : ℕ) → place ≡ cond b 0 22 → Judged file last pieces place
       unfolding offence
-      last-test place ep = record {
+      last_test place ep = record {
         each = λ main e p.
             let looked = looked.each main e in
             ep ∙ rw (same_is main e p, not-false said.same same, ← looked.once, not-false said.once once, ← (said_all pieces _ said seen looked small p), ← eb);
       }
 
-      pub out-missing : b ≡ false → Judged file last pieces 22
-      out-missing n = last-test 22 (rw n)
+      pub out_missing : b ≡ false → Judged file last pieces 22
+      out_missing n = last_test 22 (rw n)
 
-      pub out-whole : b ≡ true → Judged file last pieces 0
-      out-whole n = last-test 0 (rw n)
+      pub out_whole : b ≡ true → Judged file last pieces 0
+      out_whole n = last_test 0 (rw n)

@@ -95,29 +95,29 @@ module _ (file rec : List ℕ) (i : ℕ) (er : rec ≡ record_at file i) (b : Bo
       found_is : t ≡ seek file 362 (main_at file i) (records_in file)
       found_is = et ∙ ap (found table file 362) key_is ∙ all.noted.finds (main_at file i)
 
-      found-small : t ≤ records_in file
-      found-small = rw found_is (seek_small file 362 (main_at file i) (records_in file))
+      found_small : t ≤ records_in file
+      found_small = rw found_is (seek_small file 362 (main_at file i) (records_in file))
 
       module _ (records : WholeRecords file) where
-        pub found-low : t < 1000
-        found-low = omega (arith, found-small, records.few)
+        pub found_low : t < 1000
+        found_low = omega (arith, found_small, records.few)
 
         pub found_inside : t * 401 ≤ length file
-        found_inside = omega (arith, found-small, records.whole)
+        found_inside = omega (arith, found_small, records.whole)
 
-        pub found-linked : Linked file t links
-        found-linked = linked_below file links (records_in file) t all.linked found-small
+        pub found_linked : Linked file t links
+        found_linked = linked_below file links (records_in file) t all.linked found_small
 
         module _ (last : ℕ) (el : (last ≡ live_from file t) × (last ≤ t)) where
-          pub last-inside : last ≤ records_in file
-          last-inside = omega (arith, found-small, el.1)
+          pub last_inside : last ≤ records_in file
+          last_inside = omega (arith, found_small, el.1)
 
-          last-is : last ≡ last_live file (main_at file i) (records_in file)
-          last-is = el.0 ∙ ap (live_from file) found_is ∙ sym (last_seek file (main_at file i) (records_in file) (omega (arith, records.whole)))
+          last_is : last ≡ last_live file (main_at file i) (records_in file)
+          last_is = el.0 ∙ ap (live_from file) found_is ∙ sym (last_seek file (main_at file i) (records_in file) (omega (arith, records.whole)))
 
-          pub place-judged : (pieces r : ℕ) → (pieces ≡ count_in rec 24) × (pieces < 100) → Judged file last pieces r → r ≡ place_of (records_of file) (record_at file i)
-          place-judged pieces r ep judged =
-              judged.each (main_at file i) last-is
+          pub place_judged : (pieces r : ℕ) → (pieces ≡ count_in rec 24) × (pieces < 100) → Judged file last pieces r → r ≡ place_of (records_of file) (record_at file i)
+          place_judged pieces r ep judged =
+              judged.each (main_at file i) last_is
               (first_says file (main_at file i) (records_in file) i inside (sym link_is ∙ first) in_parts.0 refl ∙ sym (ep.0 ∙ ap (λ (r : List ℕ). count_in r 24) er))
               ∙ sym place_is
 

@@ -61,22 +61,22 @@ module _ (f : List ℕ) (p : Bool) (long : length f ≡ 6) (ep : p ≡ is_digit 
     weight_second h = rw (weight_is, not-false first good, ← eq, not-true q h)
 
     module _ (yq : not q ≡ false) where
-      pub weight-dot : (get_or f 2 0 ≡ 46 → ⊥) → false ≡ is_weight f
-      weight-dot n = rw (weight_is, not-false first good, ← eq, not-false q yq, ne_eqb (get_or f 2 0) 46 n)
+      pub weight_dot : (get_or f 2 0 ≡ 46 → ⊥) → false ≡ is_weight f
+      weight_dot n = rw (weight_is, not-false first good, ← eq, not-false q yq, ne_eqb (get_or f 2 0) 46 n)
 
       module _ (dot : get_or f 2 0 ≡ 46) (h : Bool) (eh : h ≡ is_digit (get_or f 3 0)) where
-        behind-dot : is_weight f ≡ (h && (is_digit (get_or f 4 0) && (is_digit (get_or f 5 0) && true)))
-        behind-dot = rw (weight_is, not-false first good, ← eq, not-false q yq, eq-eqb (get_or f 2 0) 46 dot, eh)
+        behind_dot : is_weight f ≡ (h && (is_digit (get_or f 4 0) && (is_digit (get_or f 5 0) && true)))
+        behind_dot = rw (weight_is, not-false first good, ← eq, not-false q yq, eq-eqb (get_or f 2 0) 46 dot, eh)
 
-        pub weight-hundreds : not h ≡ true → false ≡ is_weight f
-        weight-hundreds n = rw (behind-dot, not-true h n)
+        pub weight_hundreds : not h ≡ true → false ≡ is_weight f
+        weight_hundreds n = rw (behind_dot, not-true h n)
 
         module _ (yh : not h ≡ false) (t : Bool) (et : t ≡ is_digit (get_or f 4 0)) where
-          pub weight-tens : not t ≡ true → false ≡ is_weight f
-          weight-tens n = rw (behind-dot, not-false h yh, ← et, not-true t n)
+          pub weight_tens : not t ≡ true → false ≡ is_weight f
+          weight_tens n = rw (behind_dot, not-false h yh, ← et, not-true t n)
 
-          pub weight-ones : (o : Bool) → not t ≡ false → o ≡ is_digit (get_or f 5 0) → o ≡ is_weight f
-          weight-ones o yt eo = rw (behind-dot, not-false h yh, ← et, not-false t yt, ← eo, and-true o)
+          pub weight_ones : (o : Bool) → not t ≡ false → o ≡ is_digit (get_or f 5 0) → o ≡ is_weight f
+          weight_ones o yt eo = rw (behind_dot, not-false h yh, ← et, not-false t yt, ← eo, and-true o)
 
 module _ (f : List ℕ) (b g : Bool) (long : length f ≡ 6) (eb : b ≡ is_blank f) (nb : b ≡ false) (eg : g ≡ is_weight f) where
   pub weight_value : (k m : ℕ) → g ≡ true → k ≡ number_of_first 16 (part f 0 2) → m ≡ number_of_first 16 (part f 3 6) → grams (k * 1000 + m) ≡ read_weight f
@@ -165,24 +165,24 @@ module _ (f : List ℕ) (c n : ℕ) (long : length f ≡ 12) (filled : is_blank 
     money_front h = bad (rw (money_is, not-true front h))
 
     module _ (good : not front ≡ false) (p : Bool) (ep : p ≡ is_digit (get_or f (c + 1) 0)) where
-      pub money-tens : not p ≡ true → Money.Malformed ≡ read_money f
-      money-tens h = bad (rw (money_is, not-false front good, ← ep, not-true p h))
+      pub money_tens : not p ≡ true → Money.Malformed ≡ read_money f
+      money_tens h = bad (rw (money_is, not-false front good, ← ep, not-true p h))
 
       module _ (yp : not p ≡ false) (q : Bool) (eq : q ≡ is_digit (get_or f (c + 2) 0)) where
-        pub money-ones : not q ≡ true → Money.Malformed ≡ read_money f
-        money-ones h = bad (rw (money_is, not-false front good, ← ep, not-false p yp, ← eq, not-true q h))
+        pub money_ones : not q ≡ true → Money.Malformed ≡ read_money f
+        money_ones h = bad (rw (money_is, not-false front good, ← ep, not-false p yp, ← eq, not-true q h))
 
         module _ (yq : not q ≡ false) (s : Bool) (es : s ≡ is_blank (part f (c + 3) 12)) where
-          money-by : (t : Bool) → s ≡ t → is_money f ≡ t
-          money-by t e = rw (money_is, not-false front good, ← ep, not-false p yp, ← eq, not-false q yq, ← es, e)
+          money_by : (t : Bool) → s ≡ t → is_money f ≡ t
+          money_by t e = rw (money_is, not-false front good, ← ep, not-false p yp, ← eq, not-false q yq, ← es, e)
 
-          pub money-rest : not s ≡ true → Money.Malformed ≡ read_money f
-          money-rest h = bad (money-by false (not-true s h))
+          pub money_rest : not s ≡ true → Money.Malformed ≡ read_money f
+          money_rest h = bad (money_by false (not-true s h))
 
-          pub money-value : (v w : ℕ) → not s ≡ false → v ≡ get_or f (c + 1) 0 - 48 → w ≡ get_or f (c + 2) 0 - 48 → hellers (n * 100 + v * 10 + w) ≡ read_money f
-          money-value v w ys ev ew =
+          pub money_value : (v w : ℕ) → not s ≡ false → v ≡ get_or f (c + 1) 0 - 48 → w ≡ get_or f (c + 2) 0 - 48 → hellers (n * 100 + v * 10 + w) ≡ read_money f
+          money_value v w ys ev ew =
               rw (hellers_are v w ev ew)
-              (frame_good Money.Absent Money.Malformed (hellers (hellers_in f)) 12 f (is_money f) (is_blank f) long refl filled (money-by true (not-false s ys)))
+              (frame_good Money.Absent Money.Malformed (hellers (hellers_in f)) 12 f (is_money f) (is_blank f) long refl filled (money_by true (not-false s ys)))
 
 -- ---- what a weight weighs
 weight_small : (f : List ℕ) → length f ≡ 6 → is_weight f ≡ true → (number_of (part f 0 2) ≤ 99) × (number_of (part f 3 6) ≤ 999)

@@ -95,10 +95,10 @@ module _ (s : Services) (c : ℕ) (h : Bool) (eh : h ≡ has_code s c) where
   pub can_add : (leb 1 c && leb c 127 && not h) ≡ true → (is_code c ≡ true) × (has_code s c ≡ false)
   can_add g =
       let p = (and-eq-true_iff (is_code c) (not (has_code s c))).0 (good_is true g) in
-      (p.0, false-is (has_code s c) p.1)
+      (p.0, false_is (has_code s c) p.1)
     where
-      false-is : (b : Bool) → not b ≡ true → b ≡ false
-      false-is b e = not-true b e
+      false_is : (b : Bool) → not b ≡ true → b ≡ false
+      false_is b e = not-true b e
 
   pub adds : (r : Services) → (leb 1 c && leb c 127 && not h) ≡ true → r ≡ with_code s c → Value r ≡ added_one s c
   unfolding added_one

@@ -62,14 +62,14 @@ module _ (a b : List ℕ) (long : length a ≡ length b) where
             drop-drop 8 j s ∙ sym (drop-drop (j + 8 - i) i s ∙ ap (λ (n : ℕ). drop n s) up)
 
     module _ (v w : ℕ) where
-      pub same-eight-more : 8 < i → v ≡ w → WordAt a (i - 8) v → WordAt b (i - 8) w → drop (i - 8) a ≡ drop (i - 8) b
-      same-eight-more more e ev ew = same_from (i - 8) (omega arith) (whole a v ev ∙ e ∙ sym (whole b w ew))
+      pub same_eight_more : 8 < i → v ≡ w → WordAt a (i - 8) v → WordAt b (i - 8) w → drop (i - 8) a ≡ drop (i - 8) b
+      same_eight_more more e ev ew = same_from (i - 8) (omega arith) (whole a v ev ∙ e ∙ sym (whole b w ew))
         where
           whole : (s : List ℕ) (u : ℕ) → WordAt s (i - 8) u → word_of (drop (i - 8) s) ≡ u
           whole s u eu = ap word_of (sym (take_all (length s - (i - 8)) (drop (i - 8) s) (rw length-drop (omega arith)))) ∙ sym eu
 
-      pub same-in-front : i ≤ 8 → v ≡ word_of a → w ≡ word_of b → eqb v w ≡ same_bytes a b
-      same-in-front few ev ew = go (eqb v w) refl
+      pub same_in_front : i ≤ 8 → v ≡ word_of a → w ≡ word_of b → eqb v w ≡ same_bytes a b
+      same_in_front few ev ew = go (eqb v w) refl
         where
           go : (t : Bool) → eqb v w ≡ t → t ≡ same_bytes a b
           go true e = sym ((same_exactly a b).1 (same_from 0 (omega arith) (sym ev ∙ eqb-true v w e ∙ ew)))

@@ -29,19 +29,19 @@ module _ (l : ℕ) where
     row_UT h = (rw (a, h), omega arith, omega arith)
 
     module _ (b : (eqb l 85 || eqb l 84) ≡ false) where
-      pub row-CB : (eqb l 67 || eqb l 66) ≡ true → Looked (shape 4 5) l
+      pub row_CB : (eqb l 67 || eqb l 66) ≡ true → Looked (shape 4 5) l
       unfolding shape_of
-      row-CB h = (rw (a, b, h), omega arith, omega arith)
+      row_CB h = (rw (a, b, h), omega arith, omega arith)
 
       module _ (c : (eqb l 67 || eqb l 66) ≡ false) where
-        pub row-ML : (eqb l 77 || eqb l 76) ≡ true → Looked (shape 5 4) l
+        pub row_ML : (eqb l 77 || eqb l 76) ≡ true → Looked (shape 5 4) l
         unfolding shape_of
-        row-ML h = (rw (a, b, c, h), omega arith, omega arith)
+        row_ML h = (rw (a, b, c, h), omega arith, omega arith)
 
         module _ (d : (eqb l 77 || eqb l 76) ≡ false) where
-          pub row-Z : l ≡ 90 → Looked (shape 0 8) l
+          pub row_Z : l ≡ 90 → Looked (shape 0 8) l
           unfolding shape_of
-          row-Z h = (rw (a, b, c, d, eq-eqb l 90 h), omega arith, omega arith)
+          row_Z h = (rw (a, b, c, d, eq-eqb l 90 h), omega arith, omega arith)
 
           pub no_row : (l ≡ 90 → ⊥) → Looked (shape 0 0) l
           unfolding shape_of

@@ -2,7 +2,6 @@
 -- Assumes nothing.
 use Prim.Native.Nat.{ℕ, ◌+◌, ◌-◌, ◌*◌, ◌^◌, ◌≤◌, ◌<◌}
 use mathlib.Core.Path.{◌≡◌, refl}
-use mathlib.Core.Bool.{true}
 use mathlib.Core.List.{List, [], ◌∷◌}
 use native.Mathlib.Nat.{mul-le-mul, le-pred_of_lt, suc-add}
 use native.Mathlib.Numerals.{add-one}
@@ -12,41 +11,25 @@ use mir.Val.{Fits}
 use lib.Dec.{eqb, ltb, eqb→eq, ltb→lt}
 use lib.ListN.{length, get_or, drop}
 use lib.Seq.{drop-cons}
-use Rattle.text.specs.Bytes.{is_digit, every, all_digits}
-use Rattle.text.proofs.Booleans.{both}
 use Rattle.text.proofs.Lists.{step, ended}
-use Rattle.text.proofs.Numbers.{digit_bounds}
 use Rattle.text.proofs.Ranges.{below}
-use Rattle.text.proofs.Words.{every_behind}
 use Rattle.ident.specs.Identifier.{weights, weighted}
 
 weight_small : (k : ℕ) → k < 9 → get_or weights k 0 < 10
 weight_small k h = ltb→lt (get_or weights k 0) 10 (below (λ j. ltb (get_or weights j 0) 10) 9 k tt h)
 
--- a weight times the value of a digit, and the sum with it
-module _ (s : List ℕ) (i skip sum : ℕ) (short : length s + skip ≤ 9) (good : all_digits s ≡ true) (inside : i < length s) where
-  bounds : (48 ≤ get_or s i 0) × (get_or s i 0 ≤ 57)
-  unfolding every
-  bounds = digit_bounds (get_or s i 0) (both (is_digit (get_or s i 0)) (all_digits (drop (i + 1) s)) (rw (step s i inside) at (every_behind is_digit i s good))).0
+-- a weight times the value of any byte, and the sum with it
+module _ (s : List ℕ) (i skip v sum : ℕ) (short : length s + skip ≤ 9) (inside : i < length s) (byte : v < 208) where
+  product_small : get_or weights (i + skip) 0 * v < 2560
+  product_small = omega (arith, mul-le-mul {n₂ = 9} {m₂ = 207} (le-pred_of_lt (weight_small (i + skip) (omega arith))) (le-pred_of_lt byte))
 
-  pub digit_least : 48 ≤ get_or s i 0
-  digit_least = bounds.0
-
-  pub value_fits : Fits w64 (get_or s i 0 - 48)
-  value_fits = record { fits = omega (arith, bounds) }
-
-  product_small : get_or weights (i + skip) 0 * (get_or s i 0 - 48) < 100
-  product_small =
-      let value : get_or s i 0 - 48 ≤ 9 = omega (arith, bounds) in
-      omega (arith, mul-le-mul {n₂ = 9} {m₂ = 9} (le-pred_of_lt (weight_small (i + skip) (omega arith))) value)
-
-  pub product_fits : Fits w64 (get_or weights (i + skip) 0 * (get_or s i 0 - 48))
+  pub product_fits : Fits w64 (get_or weights (i + skip) 0 * v)
   product_fits = record { fits = omega (arith, product_small) }
 
-  pub sum_fits : sum ≤ 100 * i → Fits w64 (sum + get_or weights (i + skip) 0 * (get_or s i 0 - 48))
+  pub sum_fits : sum ≤ 2560 * i → Fits w64 (sum + get_or weights (i + skip) 0 * v)
   sum_fits h = record { fits = omega (arith, product_small) }
 
-  pub sum_small : sum ≤ 100 * i → sum + get_or weights (i + skip) 0 * (get_or s i 0 - 48) ≤ 100 * (i + 1)
+  pub sum_small : sum ≤ 2560 * i → sum + get_or weights (i + skip) 0 * v ≤ 2560 * (i + 1)
   sum_small h = omega (arith, product_small)
 
 weighted_nil : (ws : List ℕ) → weighted ws [] ≡ 0
@@ -61,8 +44,9 @@ weighted_step s i skip h k = rw (step s i h, add-one, suc-add, drop-cons weights
 
 -- the sum so far, and what is left to add
 module _ (s : List ℕ) (i skip sum r : ℕ) (known : sum + weighted (drop (i + skip) weights) (drop i s) ≡ r) where
-  pub sum_on : i < length s → length s + skip ≤ 9 → sum + get_or weights (i + skip) 0 * (get_or s i 0 - 48) + weighted (drop (i + 1 + skip) weights) (drop (i + 1) s) ≡ r
-  sum_on h k = omega (arith, weighted_step s i skip h (omega arith))
+  pub sum_on : (v : ℕ) → i < length s → length s + skip ≤ 9 → v ≡ get_or s i 0 - 48
+      → sum + get_or weights (i + skip) 0 * v + weighted (drop (i + 1 + skip) weights) (drop (i + 1) s) ≡ r
+  sum_on v h k ev = rw ev (omega (arith, weighted_step s i skip h (omega arith)))
 
   pub sum_ends : length s ≤ i → sum ≡ r
   sum_ends h = omega (arith, rw (ended s i h) at known, weighted_nil (drop (i + skip) weights))

@@ -10,18 +10,18 @@ use native.Mathlib.Omega.{arith}
 use borrow.Author.Tests.{eq-eqb, ne_eqb, eqb-true, lt-ltb, not-true, not-false}
 use lib.Dec.{eqb, ltb}
 use lib.ListN.{length, get_or, take, drop}
-use lib.Seq.{take-suc, take-length, take-take}
+use lib.Seq.{take-suc, take-length}
 use Rattle.text.specs.Answers.{answer, accepted}
 use Rattle.text.specs.Bytes.{is_capital, is_digit, all_digits}
 use Rattle.text.specs.Lists.{part}
 use Rattle.text.specs.Numbers.{number_after, number_of, number_of_first}
-use Rattle.text.proofs.Booleans.{both, by_cond}
+use Rattle.text.proofs.Booleans.{by_cond}
 use Rattle.text.proofs.Lists.{spell, spelled}
 use Rattle.text.proofs.Numbers.{few, number_append}
-use Rattle.text.proofs.Words.{every_split, both_ends}
+use Rattle.text.proofs.Words.{both_ends}
 use Rattle.ident.specs.declared.Shape.{Shape}
 use Rattle.ident.specs.declared.Parts.{Parts}
-use Rattle.ident.specs.Identifier.{right_prefix, shape_of, last_of, consignor_digits, posting_digits, digits_before, consignor_of, posting_of, weights, weighted, check_digit, sum_at, passes_at, ends_right, right_id}
+use Rattle.ident.specs.Identifier.{right_prefix, shape_of, last_of, consignor_digits, posting_digits, digits_before, consignor_of, posting_of, weights, weighted, check_digit, passes_at, ends_right, right_id}
 use Rattle.ident.proofs.Shapes.{Looked, none_eight_nine, eight_or_nine}
 use Rattle.ident.specs.declared.Reading.TheVariants.{Right, Refused}
 use Rattle.ident.specs.declared.consignor.Consignor.{Consignor}
@@ -32,28 +32,8 @@ use Rattle.ident.specs.Calls.{not_right, Checked, parts_of, Read, written, can_w
 pub prefix_is : (a b : ℕ) (p q : Bool) → p ≡ is_capital a → q ≡ is_capital b → (p && (q || eqb b 32)) ≡ right_prefix a b
 prefix_is a b p q e g = rw (e, g)
 
--- ---- sum_at
-module _ (s : List ℕ) (n : ℕ) (good : all_digits (part s 2 (n + 3)) ≡ true) where
-  front_digits : (k : ℕ) → k ≤ n + 3 - 2 → all_digits (take k (drop 2 s)) ≡ true
-  front_digits k h =
-      let all : List ℕ = part s 2 (n + 3) in
-      rw (← take-take k (n + 3 - 2) (drop 2 s) h) (both (all_digits (take k all)) (all_digits (drop k all)) (sym (every_split is_digit k all) ∙ good)).0
-
-  pub nine_digits : n ≡ 9 → all_digits (part s 2 11) ≡ true
-  nine_digits e = front_digits 9 (omega arith)
-
-  pub eight_digits : 8 ≤ n → all_digits (part s 2 10) ≡ true
-  eight_digits h = front_digits 8 (omega arith)
-
-module _ (s : List ℕ) (n sum : ℕ) where
-  pub sum_nine : n ≡ 9 → sum ≡ weighted weights (part s 2 11) → sum ≡ sum_at s n
-  sum_nine e g = rw e g
-
-  pub sum_eight : 8 ≤ n → n ≤ 9 → (n ≡ 9 → ⊥) → sum ≡ weighted (drop 1 weights) (part s 2 10) → sum ≡ sum_at s n
-  sum_eight least most other g = let e : n ≡ 8 = omega arith in rw e g
-
 -- ---- check_digit_fits
-pub fits_is : (s : List ℕ) (n sum d : ℕ) → sum ≡ sum_at s n → d ≡ check_digit (sum % 11)
+pub fits_is : (s : List ℕ) (n sum d : ℕ) → sum ≡ weighted (drop (9 - n) weights) (part s 2 (n + 2)) → d ≡ check_digit (sum % 11)
     → eqb (get_or s (n + 2) 0) (48 + d) ≡ passes_at s n
 fits_is s n sum d e g = rw (g, e)
 
@@ -134,9 +114,6 @@ least_digits h l n eh some en =
     let known : posting_digits l ≡ 0 → ⊥ = λ e. some (ap (λ (x : Shape). x.posting) eh ∙ e) in
     rw (en, eh, eight_or_nine l known) (by_cond (λ k. 8 ≤ k) (eqb l 90) 8 9 (λ e. omega arith) (λ e. omega arith))
 
-pub so_digits : (s : List ℕ) (n : ℕ) (b : Bool) → b ≡ all_digits (part s 2 (n + 3)) → not b ≡ false → all_digits (part s 2 (n + 3)) ≡ true
-so_digits s n b eb nb = sym eb ∙ not-false b nb
-
 module _ (s : List ℕ) where
   pub not_long : (length s ≡ 13 → ⊥) → false ≡ right_id s
   unfolding right_id
@@ -148,29 +125,29 @@ module _ (s : List ℕ) where
     not_prefix n = rw (eq-eqb (length s) 13 long, ← ea, not-true a n)
 
     module _ (na : not a ≡ false) (h : Shape) (eh : Looked h (last_of s)) where
-      posting-is : posting_digits (last_of s) ≡ h.posting
-      posting-is = ap (λ (x : Shape). x.posting) (sym eh.0)
+      posting_is : posting_digits (last_of s) ≡ h.posting
+      posting_is = ap (λ (x : Shape). x.posting) (sym eh.0)
 
-      consignor-is : consignor_digits (last_of s) ≡ h.consignor
-      consignor-is = ap (λ (x : Shape). x.consignor) (sym eh.0)
+      consignor_is : consignor_digits (last_of s) ≡ h.consignor
+      consignor_is = ap (λ (x : Shape). x.consignor) (sym eh.0)
 
       pub not_known : h.posting ≡ 0 → false ≡ right_id s
       unfolding right_id
-      not_known n = rw (eq-eqb (length s) 13 long, ← ea, not-false a na, posting-is, eq-eqb h.posting 0 n)
+      not_known n = rw (eq-eqb (length s) 13 long, ← ea, not-false a na, posting_is, eq-eqb h.posting 0 n)
 
       module _ (some : h.posting ≡ 0 → ⊥) (b : Bool) (eb : b ≡ all_digits (part s 2 (h.consignor + h.posting + 3))) where
-        pub not-digits : not b ≡ true → false ≡ right_id s
+        pub not_digits : not b ≡ true → false ≡ right_id s
         unfolding right_id
-        not-digits n = rw (eq-eqb (length s) 13 long, ← ea, not-false a na, posting-is, consignor-is, ne_eqb h.posting 0 some, ← eb, not-true b n)
+        not_digits n = rw (eq-eqb (length s) 13 long, ← ea, not-false a na, posting_is, consignor_is, ne_eqb h.posting 0 some, ← eb, not-true b n)
 
         module _ (nb : not b ≡ false) (d : Bool) (ed : d ≡ passes_at s (h.consignor + h.posting)) where
-          pub not-passing : not d ≡ true → false ≡ right_id s
+          pub not_passing : not d ≡ true → false ≡ right_id s
           unfolding right_id
-          not-passing n = rw (eq-eqb (length s) 13 long, ← ea, not-false a na, posting-is, consignor-is, ne_eqb h.posting 0 some, ← eb, not-false b nb, ← ed, not-true d n)
+          not_passing n = rw (eq-eqb (length s) 13 long, ← ea, not-false a na, posting_is, consignor_is, ne_eqb h.posting 0 some, ← eb, not-false b nb, ← ed, not-true d n)
 
-          pub so-ends : not d ≡ false → (r : Bool) → r ≡ ends_right s → r ≡ right_id s
+          pub so_ends : not d ≡ false → (r : Bool) → r ≡ ends_right s → r ≡ right_id s
           unfolding right_id
-          so-ends nd r er = rw (eq-eqb (length s) 13 long, ← ea, not-false a na, posting-is, consignor-is, ne_eqb h.posting 0 some, ← eb, not-false b nb, ← ed, not-false d nd) er
+          so_ends nd r er = rw (eq-eqb (length s) 13 long, ← ea, not-false a na, posting_is, consignor_is, ne_eqb h.posting 0 some, ← eb, not-false b nb, ← ed, not-false d nd) er
 
 pub right_long : (s : List ℕ) → right_id s ≡ true → length s ≡ 13
 unfolding right_id

@@ -11,10 +11,9 @@ use borrow.Rule.Slice.PartMut.{put_mid, mid_len}
 use lib.Arith.{digits_lt}
 use lib.Dec.{eqb, ltb}
 use lib.ListN.{length, take, drop, set, length-append}
-use Rattle.text.specs.Bytes.{all_digits}
 use Rattle.text.specs.Numbers.{digits}
 use Rattle.text.proofs.Lists.{spelled, put_is, put_there}
-use Rattle.text.proofs.Numbers.{ten_is, ten_grows, length_digits, digits_all, digits_beside}
+use Rattle.text.proofs.Numbers.{ten_is, ten_grows, length_digits, digits_beside}
 use Rattle.ident.specs.declared.Shape.{Shape}
 use Rattle.ident.specs.declared.Parts.{Parts}
 use Rattle.ident.specs.Identifier.{right_prefix, consignor_digits, posting_digits, digits_before, weights, weights_for, weighted, check_digit}
@@ -84,13 +83,6 @@ module _ (p : Parts) (k y : ℕ) (pre : (can_write p ≡ true) × (k ≡ posting
 
 pub posting_of_lem : (h : Shape) (l : ℕ) → Looked h l → h.posting ≡ posting_digits l
 posting_of_lem h l eh = rw eh.0
-
--- ---- the digits that were put in, looked at again
-pub filled_digits : (s t : List ℕ) (n m : ℕ) → length s ≡ 13 → n ≤ 9 → t ≡ digits (length (take (n + 2 - 2) (drop 2 s))) m
-    → all_digits (take (n + 2 - 2) (drop 2 (put_mid 2 (n + 2 - 2) s t))) ≡ true
-filled_digits s t n m long few et =
-    let w : ℕ = length (take (n + 2 - 2) (drop 2 s)) in
-    rw (put_there 2 (n + 2) s t (omega arith) (omega arith) (ap length et ∙ length_digits w m ∙ mid_len 2 (n + 2) s (omega arith)), et) (digits_all w m)
 
 -- ---- the five stores
 stored : (cz : Bool) (s d : List ℕ) (a b l x n : ℕ) → length s ≡ 13 → n ≡ cond cz 8 9 → length d ≡ n

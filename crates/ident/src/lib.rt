@@ -4,7 +4,7 @@
 mod consignor;
 
 ghost use Rattle.std.specs.Prelude.{◌≡◌, true, ◌+◌, ◌*◌, ◌^◌, ◌≤◌, ◌<◌, ltb, length, drop};
-ghost use Rattle.ident.specs.Identifier.{shape_of, posting_digits, right_prefix, weights, weighted, check_digit, sum_at, passes_at, ends_right, right_id};
+ghost use Rattle.ident.specs.Identifier.{shape_of, posting_digits, right_prefix, weights, weighted, check_digit, passes_at, ends_right, right_id};
 ghost use Rattle.text.specs.Promises.{Gives};
 ghost use Rattle.text.specs.Bytes.{all_digits};
 ghost use Rattle.text.specs.Lists.{part};
@@ -109,14 +109,14 @@ fn right_prefix(a: u8, b: u8) -> bool
 
 // The weighted sum of digits, under the weights from place `skip` on.
 fn weighted_sum(digits: &[u8], skip: usize) -> u64
-    requires { (length digits.now + skip ≤ 9) × (all_digits digits.now ≡ true) }
+    requires { length digits.now + skip ≤ 9 }
     ensures { result ≡ weighted (drop skip weights) digits.now }
 {
     let table = WEIGHTS;
     let mut sum: u64 = 0;
     let mut i = 0;
     while i < digits.len() {
-        sum += table[i + skip] * (digits[i] - b'0') as u64;
+        sum += table[i + skip] * text::digit_value(digits[i]);
         i += 1;
     }
     sum
@@ -135,24 +135,14 @@ fn check_digit(remainder: u64) -> u64
     }
 }
 
-// The weighted sum of the n digits from place 2, nine or eight: told apart, so that the compiler knows how many they are and their weights.
-fn sum_at(id: &[u8], n: usize) -> u64
-    requires { (length id.now ≡ 13) × (8 ≤ n) × (n ≤ 9) × (all_digits (part id.now 2 (n + 3)) ≡ true) }
-    ensures { result ≡ sum_at id.now n }
-{
-    if n == 9 {
-        return weighted_sum(&id[2..11], 0);
-    }
-    weighted_sum(&id[2..10], 1)
-}
-
 // The digit behind the n digits from place 2 is their check digit.
 fn check_digit_fits(id: &[u8], n: usize) -> bool
-    requires { (length id.now ≡ 13) × (8 ≤ n) × (n ≤ 9) × (all_digits (part id.now 2 (n + 3)) ≡ true) }
+    requires { (length id.now ≡ 13) × (n ≤ 9) }
     ensures { result ≡ passes_at id.now n }
 {
-    let digit = check_digit(sum_at(id, n) % 11) as u8;
-    id[n + 2] == b'0' + digit
+    let e = n + 2;
+    let digit = check_digit(weighted_sum(&id[2..e], 9 - n) % 11) as u8;
+    id[e] == b'0' + digit
 }
 
 fn parts_of(id: &[u8]) -> Parts

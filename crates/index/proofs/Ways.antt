@@ -169,9 +169,9 @@ module _ (table file : List ℕ) (from n : ℕ) (b : Bool) (eb : b ≡ has_key f
           go true = sym (set_out table (slot_of table file from (key_at file from n)) (n + 1) (omega (arith, own.0)))
           go false = refl
 
-      pub put-noted : (w : List ℕ) (t : ℕ) → (t ≡ named file from (get_or table s 0)) × (t < 65536) → w ≡ cond (ltb n 65535) (set table s (n + 1)) table → Put table file from n t w
+      pub put_noted : (w : List ℕ) (t : ℕ) → (t ≡ named file from (get_or table s 0)) × (t < 65536) → w ≡ cond (ltb n 65535) (set table s (n + 1)) table → Put table file from n t w
       unfolding noting
-      put-noted w t et ew =
+      put_noted w t et ew =
           record {
             before = find_there table file from (key_at file from n) s own t et;
             notes = rw (ew, has, own.0);

@@ -88,14 +88,14 @@ module _ (s t : Totals) where
     cancelled_large r e n = rw (← el, not-false l nl, ← e, not-true r n)
 
     module _ (k : Bool) (ek : k ≡ fits (s.cancelled + t.cancelled)) (nk : not k ≡ false) where
-      pub cash-large : (r : Sum) → r ≡ sum_of_hellers s.cash t.cash → r ≡ Amounts.TooLarge → TooLarge ≡ sum_of_totals s t
+      pub cash_large : (r : Sum) → r ≡ sum_of_hellers s.cash t.cash → r ≡ Amounts.TooLarge → TooLarge ≡ sum_of_totals s t
       unfolding sum_of_totals
-      cash-large r e q = rw (← el, not-false l nl, ← ek, not-false k nk, amounts_large s.cash t.cash r e q)
+      cash_large r e q = rw (← el, not-false l nl, ← ek, not-false k nk, amounts_large s.cash t.cash r e q)
 
       module _ (d : Sum) (cash : Hellers) (ed : d ≡ sum_of_hellers s.cash t.cash) (qd : d ≡ Amounts.Total cash) where
-        pub price-large : (r : Sum) → r ≡ sum_of_hellers s.price t.price → r ≡ Amounts.TooLarge → TooLarge ≡ sum_of_totals s t
+        pub price_large : (r : Sum) → r ≡ sum_of_hellers s.price t.price → r ≡ Amounts.TooLarge → TooLarge ≡ sum_of_totals s t
         unfolding sum_of_totals
-        price-large r e q = rw (← el, not-false l nl, ← ek, not-false k nk, (amounts_fit s.cash t.cash d ed cash qd).0, amounts_large s.price t.price r e q)
+        price_large r e q = rw (← el, not-false l nl, ← ek, not-false k nk, (amounts_fit s.cash t.cash d ed cash qd).0, amounts_large s.price t.price r e q)
 
         pub all_fit : (r : Sum) (price : Hellers) → r ≡ sum_of_hellers s.price t.price → r ≡ Amounts.Total price
             → Total (record { live = s.live + t.live; cancelled = s.cancelled + t.cancelled; cash = cash; price = price }) ≡ sum_of_totals s t

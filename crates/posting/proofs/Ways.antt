@@ -87,31 +87,31 @@ module _ (known : Known) (file : List ℕ) (i : ℕ) where
     line_breaks n = rw (not-false (line_ends file i) ended, here, ne_eqb j.check.answer.code 0 n)
 
     module _ (b : Bool) (z : j.check.answer.code ≡ 0) (e : b ≡ repeats file i i) where
-      pub line-repeats : b ≡ true → answer 2 1 ≡ line_answer known file i
+      pub line_repeats : b ≡ true → answer 2 1 ≡ line_answer known file i
       unfolding line_answer or_else
-      line-repeats t = rw (not-false (line_ends file i) ended, here, eq-eqb j.check.answer.code 0 z, ← e, t)
+      line_repeats t = rw (not-false (line_ends file i) ended, here, eq-eqb j.check.answer.code 0 z, ← e, t)
 
       -- the first consignor named suffices
       module _ (t : b ≡ false) (seen : Consignor) (sees : Seen file i seen) (w : Bool) (ew : w ≡ another seen j.check.consignor) where
-        strays-here : strays (records file i) (record_at file i) ≡ w
-        strays-here =
+        strays_here : strays (records file i) (record_at file i) ≡ w
+        strays_here =
             first_suffices (records file i) (record_at file i) sees.one
             ∙ rw (← sees.first, ← ap (λ (x : Judged). x.checj.check.consignor) judged_here) (sym ew)
 
-        pub line-strays : w ≡ true → answer 241 1 ≡ line_answer known file i
+        pub line_strays : w ≡ true → answer 241 1 ≡ line_answer known file i
         unfolding line_answer or_else
-        line-strays q = rw (not-false (line_ends file i) ended, here, eq-eqb j.check.answer.code 0 z, ← e, t, strays-here, q)
+        line_strays q = rw (not-false (line_ends file i) ended, here, eq-eqb j.check.answer.code 0 z, ← e, t, strays_here, q)
 
-        pub line-passes : w ≡ false → accepted ≡ line_answer known file i
+        pub line_passes : w ≡ false → accepted ≡ line_answer known file i
         unfolding line_answer or_else
-        line-passes q = rw (not-false (line_ends file i) ended, here, eq-eqb j.check.answer.code 0 z, ← e, t, strays-here, q)
+        line_passes q = rw (not-false (line_ends file i) ended, here, eq-eqb j.check.answer.code 0 z, ← e, t, strays_here, q)
 
-        pub line-seen : w ≡ false → (n : Consignor) → n ≡ or_named seen j.check.consignor → Seen file (i + 1) n
+        pub line_seen : w ≡ false → (n : Consignor) → n ≡ or_named seen j.check.consignor → Seen file (i + 1) n
         unfolding up_to
-        line-seen q n en =
+        line_seen q n en =
             rw (add-one i)
             record {
-              one = one_more_lem (records file i) (record_at file i) sees.one (strays-here ∙ q);
+              one = one_more_lem (records file i) (record_at file i) sees.one (strays_here ∙ q);
               first =
                   en
                   ∙ rw (sees.first, ap (λ (x : Judged). x.checj.check.consignor) judged_here)

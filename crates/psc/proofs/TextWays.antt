@@ -77,16 +77,16 @@ module _ (text : List ℕ) (i least : ℕ) (r : Bool) (known : lines_rise least 
     text_broken h = rw (← eb, not-true b h) at down
 
     module _ (good : not b ≡ false) (n : ℕ) (en : n ≡ number_of (take 5 (drop (i * 6) text))) where
-      pub text-room : Fits w64 (n + 1)
-      text-room = record { fits = omega (arith, line_below (drop (i * 6) text) (sym eb ∙ not-false b good)) }
+      pub text_room : Fits w64 (n + 1)
+      text_room = record { fits = omega (arith, line_below (drop (i * 6) text) (sym eb ∙ not-false b good)) }
 
-      pub text-falls : n < least → false ≡ r
+      pub text_falls : n < least → false ≡ r
       unfolding lines_rise numbers_in rises_from
-      text-falls low = rw (← en, lt-leb least n low, and-false) at down
+      text_falls low = rw (← en, lt-leb least n low, and-false) at down
 
-      pub text-on : least ≤ n → lines_rise (n + 1) (lines_in text - (i + 1)) (drop ((i + 1) * 6) text) ≡ r
+      pub text_on : least ≤ n → lines_rise (n + 1) (lines_in text - (i + 1)) (drop ((i + 1) * 6) text) ≡ r
       unfolding lines_rise is_lines numbers_in rises_from
-      text-on low =
+      text_on low =
           let next : i * 6 + 6 ≡ (i + 1) * 6 = omega arith in
           rw (← eb, not-false b good, ← en, le-leb least n low, drop-drop, next) at down
 

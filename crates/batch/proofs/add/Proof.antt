@@ -4,7 +4,7 @@ use borrow.Author.Rules.{rules}
 use mathlib.Core.Path.{refl}
 use Rattle.batch.specs.Actions.{Addition}
 use Rattle.batch.specs.Batch.{Add, rules}
-use Rattle.batch.proofs.CallWays.{is_other, guard_refuses, guard_ready, work-done}
+use Rattle.batch.proofs.CallWays.{is_other, guard_refuses, guard_ready, work_done}
 use Rattle.batch.proofs.add.Statement.{statement}
 use Rattle.batch.proofs.add.Tie as tie
 
@@ -35,7 +35,7 @@ returns-2 c =
     let at-enter = c.before.before.before.before in
     let at-if1 = at-enter.before.before.before in
     let at-guard = at-if1.before.before.before in
-    work-done _ _ _ _ _ at-guard.guard.ensures (Add _) (is_other (Add _) refl) refl at-if1.if1.left (Addition _) _ _ _ (λ s. refl) (λ s. refl) at-enter.enter.ensures
+    work_done _ _ _ _ _ at-guard.guard.ensures (Add _) (is_other (Add _) refl) refl at-if1.if1.left (Addition _) _ _ _ (λ s. refl) (λ s. refl) at-enter.enter.ensures
 
 pub add_spec : {M : Type 1} → statement M
 add_spec =

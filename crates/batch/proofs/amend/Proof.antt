@@ -4,7 +4,7 @@ use borrow.Author.Rules.{rules}
 use mathlib.Core.Path.{refl}
 use Rattle.batch.specs.Actions.{Amendment}
 use Rattle.batch.specs.Batch.{Amend, rules}
-use Rattle.batch.proofs.CallWays.{is_other, guard_refuses, guard_ready, work-done}
+use Rattle.batch.proofs.CallWays.{is_other, guard_refuses, guard_ready, work_done}
 use Rattle.batch.proofs.amend.Statement.{statement}
 use Rattle.batch.proofs.amend.Tie as tie
 
@@ -35,7 +35,7 @@ returns-2 c =
     let at-enter = c.before.before.before.before in
     let at-if1 = at-enter.before.before.before in
     let at-guard = at-if1.before.before.before in
-    work-done _ _ _ _ _ at-guard.guard.ensures (Amend _) (is_other (Amend _) refl) refl at-if1.if1.left (Amendment _) _ _ _ (λ s. refl) (λ s. refl) at-enter.enter.ensures
+    work_done _ _ _ _ _ at-guard.guard.ensures (Amend _) (is_other (Amend _) refl) refl at-if1.if1.left (Amendment _) _ _ _ (λ s. refl) (λ s. refl) at-enter.enter.ensures
 
 pub amend-spec : {M : Type 1} → statement M
 amend-spec =

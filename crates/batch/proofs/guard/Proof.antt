@@ -1,7 +1,7 @@
 -- `batch::guard` meets its contract.
 -- Assumes nothing.
 use borrow.Author.Rules.{rules}
-use Rattle.batch.proofs.GuardWays.{guard_short, guard_long, guard-table, guard_nothing, guard-found}
+use Rattle.batch.proofs.GuardWays.{guard_short, guard_long, guard_table, guard_nothing, guard_found}
 use Rattle.batch.proofs.guard.Statement.{statement}
 use Rattle.batch.proofs.guard.Tie as tie
 
@@ -21,7 +21,7 @@ refused-at-requires-2 : tie.Need-refused-at-requires-2
 refused-at-requires-2 c κs = search rules
 
 returns-2 : tie.Need-returns-2
-returns-2 c = search guard-table
+returns-2 c = search guard_table
 
 test-requires : tie.Need-test-requires
 test-requires c κs = search guard_long
@@ -33,7 +33,7 @@ returns-3 : tie.Need-returns-3
 returns-3 c = search guard_nothing
 
 returns-4 : tie.Need-returns-4
-returns-4 c = search guard-found
+returns-4 c = search guard_found
 
 pub guard-spec : {M : Type 1} → statement M
 guard-spec =

@@ -2,7 +2,7 @@
 -- Assumes nothing.
 use borrow.Author.Rules.{rules}
 use Rattle.closing.proofs.LinkWays.{whole_there}
-use Rattle.closing.proofs.Ways.{place_none, place_earlier, found-low, found_inside, found-linked, last-inside, place-judged}
+use Rattle.closing.proofs.Ways.{place_none, place_earlier, found_low, found_inside, found_linked, last_inside, place_judged}
 use Rattle.closing.proofs.place_of.Statement.{statement}
 use Rattle.closing.proofs.place_of.Tie as tie
 
@@ -31,16 +31,16 @@ find-requires : tie.Need-find-requires
 find-requires c κs = search rules
 
 live-from-requires : tie.Need-live-from-requires
-live-from-requires c κs = (search found-low, search found_inside, search found-linked)
+live-from-requires c κs = (search found_low, search found_inside, search found_linked)
 
 count-in-requires : tie.Need-count-in-requires
 count-in-requires c κs = search rules
 
 offence-requires : tie.Need-offence-requires
-offence-requires c κs = (search rules, search rules, search (last-inside, rules), search rules)
+offence-requires c κs = (search rules, search rules, search (last_inside, rules), search rules)
 
 returns-3 : tie.Need-returns-3
-returns-3 c = search place-judged
+returns-3 c = search place_judged
 
 pub place-of-spec : {M : Type 1} → statement M
 place-of-spec =

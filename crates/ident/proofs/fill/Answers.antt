@@ -2,14 +2,11 @@
 use borrow.Author.Rules.{rules}
 use native.Mathlib.Omega.{arith}
 use lib.ListN.{length-set}
-use Rattle.ident.proofs.Writing.{posting_of_lem, filled_digits, fill_is}
+use Rattle.ident.proofs.Writing.{posting_of_lem, fill_is}
 use Rattle.ident.proofs.fill.Goals as goal
 
 pub side_by_side-number-requires : goal.side_by_side-number-requires
 side_by_side-number-requires c = (search rules, posting_of_lem _ _ c.shape_of-shape.ensures, search rules)
-
-pub weighted_sum-requires : goal.weighted_sum-requires
-weighted_sum-requires c = (search rules, search filled_digits)
 
 pub bounds-id-1 : goal.bounds-id-1
 bounds-id-1 c = simp length-set (omega arith)

@@ -1,6 +1,6 @@
 -- `ident::right`.
 use borrow.Author.Rules.{rules}
-use Rattle.ident.proofs.Ways.{not_long, not_prefix, not_known, least_digits, not-digits, so_digits, not-passing, so-ends}
+use Rattle.ident.proofs.Ways.{not_long, not_prefix, not_known, least_digits, not_digits, not_passing, so_ends}
 use Rattle.ident.proofs.right.Goals as goal
 
 pub returns-then-id-ne13 : goal.returns-then-id-ne13
@@ -16,13 +16,10 @@ pub digits_at-requires : goal.digits_at-requires
 digits_at-requires c = (search rules, search least_digits, search rules)
 
 pub returns-then-not-digits_at : goal.returns-then-not-digits_at
-returns-then-not-digits_at c = search not-digits
-
-pub check_digit_fits-requires : goal.check_digit_fits-requires
-check_digit_fits-requires c = (search rules, search least_digits, search rules, search so_digits)
+returns-then-not-digits_at c = search not_digits
 
 pub returns-then-not-check_digit_fits : goal.returns-then-not-check_digit_fits
-returns-then-not-check_digit_fits c = search not-passing
+returns-then-not-check_digit_fits c = search not_passing
 
 pub returns : goal.returns
-returns c = search so-ends
+returns c = search so_ends

@@ -1,7 +1,7 @@
 -- `ident::same`.
 use native.Mathlib.Omega.{arith}
 use Rattle.text.proofs.Loops.{same_not_long}
-use Rattle.ident.proofs.Comparing.{other_word, same_at_end, same-eight-more, same-in-front}
+use Rattle.ident.proofs.Comparing.{other_word, same_at_end, same_eight_more, same_in_front}
 use Rattle.ident.proofs.same.Goals as goal
 
 pub returns-then-a-b : goal.returns-then-a-b
@@ -14,7 +14,7 @@ pub returns-then-word : goal.returns-then-word
 returns-then-word c = search other_word
 
 pub loop-i-preserved : goal.loop-i-preserved
-loop-i-preserved c = (omega arith, search same-eight-more)
+loop-i-preserved c = (omega arith, search same_eight_more)
 
 pub returns : goal.returns
-returns c = search same-in-front
+returns c = search same_in_front

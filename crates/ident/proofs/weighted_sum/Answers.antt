@@ -1,17 +1,11 @@
 -- `ident::weighted_sum`.
 use native.Mathlib.Omega.{arith}
 use native.Mathlib.Nat.{zero-add}
-use Rattle.ident.proofs.Sums.{digit_least, value_fits, product_fits, sum_fits, sum_small, sum_on, sum_ends}
+use Rattle.ident.proofs.Sums.{product_fits, sum_fits, sum_small, sum_on, sum_ends}
 use Rattle.ident.proofs.weighted_sum.Goals as goal
 
 pub loop-i-init : goal.loop-i-init
 loop-i-init c = (omega arith, omega arith, simp zero-add)
-
-pub overflow_sub-sum : goal.overflow_sub-sum
-overflow_sub-sum c = search digit_least
-
-pub overflow_cast-sum : goal.overflow_cast-sum
-overflow_cast-sum c = search value_fits
 
 pub overflow_mul-sum : goal.overflow_mul-sum
 overflow_mul-sum c = search product_fits

@@ -2,7 +2,7 @@
 -- Assumes nothing.
 use borrow.Author.Rules.{rules}
 use native.Mathlib.Omega.{arith}
-use Rattle.posting.proofs.Ways.{line_open, line_breaks, line-repeats, line-strays, line-passes, line-seen}
+use Rattle.posting.proofs.Ways.{line_open, line_breaks, line_repeats, line_strays, line_passes, line_seen}
 use Rattle.posting.proofs.line_answer.Statement.{statement}
 use Rattle.posting.proofs.line_answer.Tie as tie
 
@@ -46,7 +46,7 @@ same_length : tie.Need-same-length
 same_length c = search rules
 
 returns-3 : tie.Need-returns-3
-returns-3 c = record { answers = search line-repeats; notes = λ z. absurd (omega arith); sees = λ z. absurd (omega arith) }
+returns-3 c = record { answers = search line_repeats; notes = λ z. absurd (omega arith); sees = λ z. absurd (omega arith) }
 
 another-requires : tie.Need-another-requires
 another-requires c κs = search rules
@@ -55,7 +55,7 @@ same-length-2 : tie.Need-same-length-2
 same-length-2 c = search rules
 
 returns-4 : tie.Need-returns-4
-returns-4 c = record { answers = search line-strays; notes = λ z. absurd (omega arith); sees = λ z. absurd (omega arith) }
+returns-4 c = record { answers = search line_strays; notes = λ z. absurd (omega arith); sees = λ z. absurd (omega arith) }
 
 or-named-requires : tie.Need-or-named-requires
 or-named-requires c κs = search rules
@@ -64,7 +64,7 @@ same-length-3 : tie.Need-same-length-3
 same-length-3 c = search rules
 
 returns-5 : tie.Need-returns-5
-returns-5 c = record { answers = search line-passes; notes = λ z. search rules; sees = λ z. search line-seen }
+returns-5 c = record { answers = search line_passes; notes = λ z. search rules; sees = λ z. search line_seen }
 
 pub line-answer-spec : {M : Type 1} → statement M
 line-answer-spec =

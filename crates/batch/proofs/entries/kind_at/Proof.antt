@@ -1,7 +1,7 @@
 -- `batch::entries::kind_at` meets its contract.
 -- Assumes nothing.
 use borrow.Author.Rules.{rules}
-use Rattle.batch.proofs.JournalWays.{kind_one, kind_two, kind-three, kind-none}
+use Rattle.batch.proofs.JournalWays.{kind_one, kind_two, kind_three, kind_none}
 use Rattle.batch.proofs.entries.kind_at.Statement.{statement}
 use Rattle.batch.proofs.entries.kind_at.Tie as tie
 
@@ -21,10 +21,10 @@ starts-entry-requires-3 : tie.Need-starts-entry-requires-3
 starts-entry-requires-3 c κs = search rules
 
 returns-3 : tie.Need-returns-3
-returns-3 c = search kind-three
+returns-3 c = search kind_three
 
 returns-4 : tie.Need-returns-4
-returns-4 c = search kind-none
+returns-4 c = search kind_none
 
 pub kind-at-spec : {M : Type 1} → statement M
 kind-at-spec =

@@ -1,7 +1,7 @@
 -- `batch::test::line_same` meets its contract.
 -- Assumes nothing.
 use borrow.Author.Rules.{rules}
-use Rattle.batch.proofs.LineWays.{line_open, line_plain, line-live, line_other, line-struck}
+use Rattle.batch.proofs.LineWays.{line_open, line_plain, line_live, line_other, line_struck}
 use Rattle.batch.proofs.test.line_same.Statement.{statement}
 use Rattle.batch.proofs.test.line_same.Tie as tie
 
@@ -36,7 +36,7 @@ shared-slice-read-struck-2 : tie.Need-shared-slice-read-struck-2
 shared-slice-read-struck-2 c = search rules
 
 returns-3 : tie.Need-returns-3
-returns-3 c = search line-live
+returns-3 c = search line_live
 
 sub-same-2 : tie.Need-overflow-sub-same-2
 sub-same-2 c = search rules
@@ -84,7 +84,7 @@ same-requires-3 : tie.Need-same-requires-3
 same-requires-3 c κs = search rules
 
 returns-5 : tie.Need-returns-5
-returns-5 c = search line-struck
+returns-5 c = search line_struck
 
 pub line-same-spec : {M : Type 1} → statement M
 line-same-spec =

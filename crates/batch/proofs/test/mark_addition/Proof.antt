@@ -1,7 +1,7 @@
 -- `batch::test::mark_addition` meets its contract.
 -- Assumes nothing.
 use borrow.Author.Rules.{rules}
-use Rattle.batch.proofs.TestWays.{added_short, added_refused, added-strays, added_other, added_twice, added-now}
+use Rattle.batch.proofs.TestWays.{added_short, added_refused, added_strays, added_other, added_twice, added_now}
 use Rattle.batch.proofs.test.mark_addition.Statement.{statement}
 use Rattle.batch.proofs.test.mark_addition.Tie as tie
 
@@ -36,7 +36,7 @@ not-marked-requires-3 : tie.Need-not-marked-requires-3
 not-marked-requires-3 c κs = search rules
 
 returns-3 : tie.Need-returns-3
-returns-3 c = search added-strays
+returns-3 c = search added_strays
 
 sub_same : tie.Need-overflow-sub-same
 sub_same c = search rules
@@ -93,7 +93,7 @@ same-length-3 : tie.Need-same-length-3
 same-length-3 c = search rules
 
 returns-6 : tie.Need-returns-6
-returns-6 c = search added-now
+returns-6 c = search added_now
 
 pub mark-addition-spec : {M : Type 1} → statement M
 mark-addition-spec =

@@ -1,7 +1,7 @@
 -- `batch::test::step` meets its contract.
 -- Assumes nothing.
 use borrow.Author.Rules.{rules}
-use Rattle.batch.proofs.StepWays.{step_none, step_ends, step-judged}
+use Rattle.batch.proofs.StepWays.{step_none, step_ends, step_judged}
 use Rattle.batch.proofs.test.step.Statement.{statement}
 use Rattle.batch.proofs.test.step.Tie as tie
 
@@ -42,7 +42,7 @@ same-length-2 : tie.Need-same-length-2
 same-length-2 c = search rules
 
 returns-2 : tie.Need-returns-2
-returns-2 c = search step-judged
+returns-2 c = search step_judged
 
 pub step_spec : {M : Type 1} → statement M
 step_spec =

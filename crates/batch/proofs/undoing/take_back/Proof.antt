@@ -1,7 +1,7 @@
 -- `batch::undoing::take_back` meets its contract.
 -- Assumes nothing.
 use borrow.Author.Rules.{rules}
-use Rattle.batch.proofs.BackWays.{back_within, body_fits, record_fits, id_fits, back_id, addition_part, addition_asks, addition_done, cancellation_asks, cancellation_done, before-asks, amendment-asks, amendment-done}
+use Rattle.batch.proofs.BackWays.{back_within, body_fits, record_fits, id_fits, back_id, addition_part, addition_asks, addition_done, cancellation_asks, cancellation_done, before_asks, amendment_asks, amendment_done}
 use Rattle.batch.proofs.undoing.take_back.Statement.{statement}
 use Rattle.batch.proofs.undoing.take_back.Tie as tie
 
@@ -63,7 +63,7 @@ part-record-before-end : tie.Need-slice-bounds-record-before-end
 part-record-before-end c = search back_id
 
 record-before-requires : tie.Need-record-before-requires
-record-before-requires c κs = search before-asks
+record-before-requires c κs = search before_asks
 
 add-b : tie.Need-overflow-add-b
 add-b c = search rules
@@ -81,13 +81,13 @@ part-amendment-off-end : tie.Need-slice-bounds-amendment-off-end
 part-amendment-off-end c = search rules
 
 amendment-off-requires : tie.Need-amendment-off-requires
-amendment-off-requires c κs = search amendment-asks
+amendment-off-requires c κs = search amendment_asks
 
 same-length-3 : tie.Need-same-length-3
 same-length-3 c = search rules
 
 returns-3 : tie.Need-returns-3
-returns-3 c = search amendment-done
+returns-3 c = search amendment_done
 
 pub take-back-spec : {M : Type 1} → statement M
 take-back-spec =

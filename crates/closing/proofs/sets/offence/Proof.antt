@@ -1,7 +1,7 @@
 -- `closing::sets::offence` meets its contract.
 -- Assumes nothing.
 use borrow.Author.Rules.{rules}
-use Rattle.closing.proofs.SetWays.{no_marks, out_unequal, out_repeated, out-missing, out-whole}
+use Rattle.closing.proofs.SetWays.{no_marks, out_unequal, out_repeated, out_missing, out_whole}
 use Rattle.closing.proofs.sets.offence.Statement.{statement}
 use Rattle.closing.proofs.sets.offence.Tie as tie
 
@@ -24,10 +24,10 @@ all-marked-requires : tie.Need-all-marked-requires
 all-marked-requires c κs = search rules
 
 returns-3 : tie.Need-returns-3
-returns-3 c = search out-whole
+returns-3 c = search out_whole
 
 returns-4 : tie.Need-returns-4
-returns-4 c = search out-missing
+returns-4 c = search out_missing
 
 pub offence-spec : {M : Type 1} → statement M
 offence-spec =

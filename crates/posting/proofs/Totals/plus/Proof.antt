@@ -1,7 +1,7 @@
 -- `posting::Totals/plus` meets its contract.
 -- Assumes nothing.
 use borrow.Author.Rules.{rules}
-use Rattle.posting.proofs.Amounts.{fits_below, live_large, cancelled_large, cash-large, price-large, all_fit}
+use Rattle.posting.proofs.Amounts.{fits_below, live_large, cancelled_large, cash_large, price_large, all_fit}
 use Rattle.posting.proofs.Totals.plus.Statement.{statement}
 use Rattle.posting.proofs.Totals.plus.Tie as tie
 
@@ -33,7 +33,7 @@ enum_told : tie.Need-enum-told
 enum_told c = search rules
 
 returns-3 : tie.Need-returns-3
-returns-3 c = search cash-large
+returns-3 c = search cash_large
 
 plus-requires-2 : tie.Need-plus-requires-2
 plus-requires-2 c κs = search rules
@@ -45,7 +45,7 @@ enum-told-2 : tie.Need-enum-told-2
 enum-told-2 c = search rules
 
 returns-4 : tie.Need-returns-4
-returns-4 c = search price-large
+returns-4 c = search price_large
 
 returns-5 : tie.Need-returns-5
 returns-5 c = search all_fit

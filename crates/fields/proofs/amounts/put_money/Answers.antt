@@ -1,0 +1,10 @@
+-- `fields::amounts::put_money`.
+use borrow.Author.Rules.{rules}
+use Rattle.fields.proofs.AmountWays.{crowns_nine, money_put}
+use Rattle.fields.proofs.amounts.put_money.Goals as goal
+
+pub put_crowns_and_hellers-requires : goal.put_crowns_and_hellers-requires
+put_crowns_and_hellers-requires c = (search rules, search crowns_nine)
+
+pub returns : goal.returns
+returns c = search money_put

@@ -1,0 +1,7 @@
+-- `index::hash`.
+use borrow.Author.Rules.{rules}
+use Rattle.index.proofs.Ways.{hash_is}
+use Rattle.index.proofs.hash.Goals as goal
+
+pub returns : goal.returns
+returns c = (search hash_is, search rules)
