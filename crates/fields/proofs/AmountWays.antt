@@ -5,24 +5,23 @@ use mathlib.Core.Path.{◌≡◌, refl, sym, ap, ◌∙◌}
 use mathlib.Core.Bool.{Bool, true, false, cond, not, ◌&&◌, ◌||◌, and-true}
 use mathlib.Core.List.{List, [], ◌∷◌, ◌++◌, append_assoc}
 use native.Mathlib.Nat.{sub-zero, zero-sub}
-use native.Mathlib.Numerals.{add-one}
 use native.Mathlib.Omega.{arith}
-use borrow.Author.Tests.{eq-eqb, ne_eqb, lt-ltb, le-ltb, le-leb, lt-leb, eqb-true, not-true, not-false}
+use borrow.Author.Tests.{eq-eqb, ne_eqb, lt-ltb, le-ltb, le-leb, lt-leb, eqb-true, leb-true, not-true, not-false}
 use borrow.Rule.Slice.PartMut.{mid_len}
 use mir.Syntax.{w64}
 use mir.Val.{Fits}
-use lib.Dec.{eqb, ltb}
+use lib.Dec.{eqb, leb, ltb}
 use lib.ListN.{length, get_or, take, drop, set, replicate, length-append, length-set}
-use lib.Seq.{get_or-drop, take_at, drop_at, set_at, drop-drop, length-take-le, take-suc, take-take}
+use lib.Seq.{get_or-drop, take_at, drop_at, set_at, drop-drop, length-take-le}
 use Rattle.text.specs.Answers.{answer, accepted}
-use Rattle.text.specs.Bytes.{is_digit, every, all_digits, is_blank, run}
+use Rattle.text.specs.Bytes.{is_digit, all_digits, is_blank, every}
 use Rattle.text.specs.Lists.{part, overlay}
 use Rattle.text.specs.Numbers.{number_after, number_of, number_of_first, digits, decimal_places}
 use Rattle.text.proofs.Booleans.{both}
-use Rattle.text.proofs.Lists.{step, spelled}
+use Rattle.text.proofs.Lists.{spelled}
 use Rattle.text.proofs.Runs.{run_passes}
 use Rattle.text.proofs.Decimals.{decimal_places_at_most}
-use Rattle.text.proofs.Numbers.{ten, ten_grows, few, number_append, number_below, length_digits, digit_bounds}
+use Rattle.text.proofs.Numbers.{few, ten_grows, number_below, length_digits, digit_bounds}
 use Rattle.fields.specs.declared.amounts.Grams.{Grams}
 use Rattle.fields.specs.declared.amounts.Hellers.{Hellers}
 use Rattle.fields.specs.declared.amounts.Sum.TheVariants.{Total, TooLarge}
@@ -32,7 +31,6 @@ use Rattle.fields.specs.declared.amounts.MoneyReading.{MoneyReading}
 use Rattle.fields.specs.declared.amounts.MoneyReading.TheVariants as Money
 use Rattle.fields.specs.Amounts.{is_weight, grams_in, grams, read_weight, weight_text, crown_digits, is_money, hellers_in, hellers, read_money, absent_or_zero_money, money_text}
 use Rattle.fields.specs.Calls.{has_money_text, money_bytes, has_weight_text, weight_bytes, Written, MoneyWritten, WeightWritten, sum_of_hellers}
-use Rattle.fields.proofs.ByteLaws.{every_take, run_within}
 use Rattle.fields.proofs.Frames.{frame_good, frame_bad}
 
 -- ---- the sum of two amounts
@@ -88,101 +86,85 @@ module _ (f : List ℕ) (b g : Bool) (long : length f ≡ 6) (eb : b ≡ is_blan
   weight_bad t = frame_bad Weight.Absent Weight.Malformed (grams (grams_in f)) 6 f (is_weight f) b long eb nb (sym eg ∙ t)
 
 -- ---- money
--- a number with one digit more
-number_more : (s : List ℕ) (i : ℕ) → i < length s → number_of (take (i + 1) s) ≡ number_of (take i s) * 10 + (get_or s i 0 - 48)
-unfolding number_after
-number_more s i h = rw (add-one, take-suc s i 0 h) (number_append 0 (take i s) (get_or s i 0 ∷ []))
-
-crowns_below : (f : List ℕ) (i n : ℕ) → i ≤ crown_digits f → n ≡ number_of (take i f) → n < ten i
-crowns_below f i n h e =
-    let all : all_digits (take i f) ≡ true = rw (← take-take i (crown_digits f) f h) (every_take is_digit i (take (crown_digits f) f) (run_passes is_digit f)) in
-    rw e (number_below i (take i f) (length-take-le i f (omega (arith, run_within is_digit f))) all)
-
--- the digits in front, one after the other: i of them write n
-module _ (f : List ℕ) (i n : ℕ) (within : i < length f) (known : i + run is_digit (drop i f) ≡ crown_digits f) (number : n ≡ number_of (take i f)) where
-  pub tenfold_fits : i < 10 → Fits w64 (n * 10)
-  tenfold_fits h = record { fits = omega (arith, crowns_below f i n (omega arith) number, ten_grows i 9 (omega arith)) }
-
-  pub digit_fits : (v : ℕ) → i < 10 → v < 208 → Fits w64 (n * 10 + v)
-  digit_fits v h l = record { fits = omega (arith, crowns_below f i n (omega arith) number, ten_grows i 9 (omega arith)) }
-
-  pub number_on : (v : ℕ) → v ≡ get_or f i 0 - 48 → n * 10 + v ≡ number_of (take (i + 1) f)
-  number_on v e = rw (number_more f i within, number, e)
-
--- malformed, though not blank
-money_bad : (f : List ℕ) → length f ≡ 12 → is_blank f ≡ false → is_money f ≡ false → Money.Malformed ≡ read_money f
-money_bad f long filled bad = frame_bad Money.Absent Money.Malformed (hellers (hellers_in f)) 12 f (is_money f) (is_blank f) long refl filled bad
-
-module _ (f : List ℕ) (b : Bool) (eb : b ≡ is_blank f) (nb : b ≡ false) where
-  pub money_filled : is_blank f ≡ false
-  money_filled = sym eb ∙ nb
-
-  pub money_many : (i : ℕ) → length f ≡ 12 → 10 ≤ i → i + run is_digit (drop i f) ≡ crown_digits f → Money.Malformed ≡ read_money f
+module _ (f : List ℕ) (n : ℕ) (pre : (length f ≡ 12) × (n ≡ crown_digits f)) where
+  pub money_none : n < 1 → false ≡ is_money f
   unfolding is_money
-  money_many i long many known =
-      money_bad f long money_filled (rw (le-leb 1 (crown_digits f) (omega arith), lt-leb (crown_digits f) 9 (omega arith)))
+  money_none h = rw (← pre.1, lt-leb 1 n h)
 
--- what stands behind c digits that write n
-module _ (f : List ℕ) (c n : ℕ) (long : length f ≡ 12) (filled : is_blank f ≡ false) (crowns : c ≡ crown_digits f) (nine : c < 10) (number : n ≡ number_of (take c f)) where
-  crowns_small : n < 1000000000
-  crowns_small = omega (arith, crowns_below f c n (omega arith) number, ten_grows c 9 (omega arith))
-
-  pub crowns_fit : Fits w64 (n * 100)
-  crowns_fit = record { fits = omega (arith, crowns_small) }
-
-  pub tens_fit : (v : ℕ) → v < 208 → Fits w64 (n * 100 + v * 10)
-  tens_fit v h = record { fits = omega (arith, crowns_small) }
-
-  pub hellers_fit : (v w : ℕ) → v < 208 → w < 208 → Fits w64 (n * 100 + v * 10 + w)
-  hellers_fit v w h l = record { fits = omega (arith, crowns_small) }
-
-  bad : is_money f ≡ false → Money.Malformed ≡ read_money f
-  bad h = money_bad f long filled h
-
-  pub money_none : c < 1 → Money.Malformed ≡ read_money f
+  pub money_many : 1 ≤ n → 9 < n → false ≡ is_money f
   unfolding is_money
-  money_none h = bad (rw (← crowns, lt-leb 1 c h))
+  money_many l h = rw (← pre.1, le-leb 1 n l, lt-leb n 9 h)
 
-  two_behind : part f (c + 1) (c + 3) ≡ get_or f (c + 1) 0 ∷ get_or f (c + 2) 0 ∷ []
-  two_behind =
-      let two : c + 3 - (c + 1) ≡ 2 = omega arith in
-      let next : c + 1 + 1 ≡ c + 2 = omega arith in
-      rw (two, step f (c + 1) (omega arith), next, step f (c + 2) (omega arith))
+  pub money_form : (d s : Bool) → 1 ≤ n → n ≤ 9 → d ≡ all_digits (part f (n + 1) (n + 3)) → s ≡ is_blank (part f (n + 3) 12)
+      → ((eqb n 1 || not (eqb (get_or f 0 0) 48)) && eqb (get_or f n 0) 46 && d && s) ≡ is_money f
+  unfolding is_money
+  money_form d s l h ed es = rw (← pre.1, le-leb 1 n l, le-leb n 9 h, ed, es)
 
-  hellers_are : (v w : ℕ) → v ≡ get_or f (c + 1) 0 - 48 → w ≡ get_or f (c + 2) 0 - 48 → n * 100 + v * 10 + w ≡ hellers_in f
-  unfolding number_after
-  hellers_are v w ev ew = rw (number, ev, ew, ← crowns, sub-zero c, two_behind) (omega arith)
+-- what an amount has, with p digits before its dot
+pub record Amount (f : List ℕ) (p : ℕ) : Type 0 where
+  pub low : 1 ≤ p
+  pub high : p ≤ 9
+  pub first : (eqb p 1 || not (eqb (get_or f 0 0) 48)) ≡ true
+  pub dot : get_or f p 0 ≡ 46
+  pub two_digits : all_digits (part f (p + 1) (p + 3)) ≡ true
+  pub rest : is_blank (part f (p + 3) 12) ≡ true
 
-  abbrev front : Bool
-  front = (eqb c 1 || not (eqb (get_or f 0 0) 48)) && eqb (get_or f c 0) 46
+pub amount_has : (f : List ℕ) → is_money f ≡ true → Amount f (crown_digits f)
+unfolding is_money
+amount_has f h =
+    let a = both _ (is_blank (part f (crown_digits f + 3) 12)) h in
+    let b = both _ (all_digits (part f (crown_digits f + 1) (crown_digits f + 3))) a.0 in
+    let d = both _ (eqb (get_or f (crown_digits f) 0) 46) b.0 in
+    let e = both _ (eqb (crown_digits f) 1 || not (eqb (get_or f 0 0) 48)) d.0 in
+    let g = both (leb 1 (crown_digits f)) (leb (crown_digits f) 9) e.0 in
+    record {
+      low = leb-true 1 (crown_digits f) g.0;
+      high = leb-true (crown_digits f) 9 g.1;
+      first = e.1;
+      dot = eqb-true (get_or f (crown_digits f) 0) 46 d.1;
+      two_digits = b.1;
+      rest = a.1;
+    }
 
-  module _ (some : 1 ≤ c) where
-    money_is : is_money f ≡ (front && (is_digit (get_or f (c + 1) 0) && is_digit (get_or f (c + 2) 0)) && is_blank (part f (c + 3) 12))
-    unfolding is_money every
-    money_is = rw (← crowns, le-leb 1 c some, le-leb c 9 (omega arith), two_behind, and-true (is_digit (get_or f (c + 2) 0)))
+module _ (f : List ℕ) (n : ℕ) (pre : (length f ≡ 12) × (n ≡ crown_digits f) × (is_money f ≡ true)) where
+  has : Amount f (crown_digits f)
+  has = amount_has f pre.2
 
-    pub money_front : not front ≡ true → Money.Malformed ≡ read_money f
-    money_front h = bad (rw (money_is, not-true front h))
+  pub nine_digits : (1 ≤ n) × (n ≤ 9)
+  nine_digits = (omega (arith, has.low, pre.1), omega (arith, has.high, pre.1))
 
-    module _ (good : not front ≡ false) (p : Bool) (ep : p ≡ is_digit (get_or f (c + 1) 0)) where
-      pub money_tens : not p ≡ true → Money.Malformed ≡ read_money f
-      money_tens h = bad (rw (money_is, not-false front good, ← ep, not-true p h))
+  crowns_small : (c : ℕ) → c ≡ number_of_first 16 (part f 0 n) → c < 1000000000
+  crowns_small c e =
+      let whole : c ≡ number_of (take n f) = e ∙ few f 0 n (omega (arith, nine_digits)) ∙ ap (λ (k : ℕ). number_of (take k f)) (sub-zero n) in
+      let all : all_digits (take n f) ≡ true = rw pre.1 (run_passes is_digit f) in
+      let below = number_below n (take n f) (length-take-le n f (omega (arith, nine_digits, pre.0))) all in
+      omega (arith, ten_grows n 9 nine_digits.1)
 
-      module _ (yp : not p ≡ false) (q : Bool) (eq : q ≡ is_digit (get_or f (c + 2) 0)) where
-        pub money_ones : not q ≡ true → Money.Malformed ≡ read_money f
-        money_ones h = bad (rw (money_is, not-false front good, ← ep, not-false p yp, ← eq, not-true q h))
+  two_digits_small : (p : ℕ) → p ≡ number_of_first 16 (part f (n + 1) (n + 3)) → p < 100
+  two_digits_small p e =
+      let whole : p ≡ number_of (part f (n + 1) (n + 3)) = e ∙ few f (n + 1) (n + 3) (omega arith) in
+      let all : all_digits (part f (n + 1) (n + 3)) ≡ true = rw pre.1 has.two_digits in
+      let two : length (part f (n + 1) (n + 3)) ≡ 2 = mid_len (n + 1) (n + 3) f (omega (arith, nine_digits, pre.0)) ∙ omega arith in
+      omega (arith, number_below 2 (part f (n + 1) (n + 3)) two all)
 
-        module _ (yq : not q ≡ false) (s : Bool) (es : s ≡ is_blank (part f (c + 3) 12)) where
-          money_by : (t : Bool) → s ≡ t → is_money f ≡ t
-          money_by t e = rw (money_is, not-false front good, ← ep, not-false p yp, ← eq, not-false q yq, ← es, e)
+  pub crowns_fit : (c : ℕ) → c ≡ number_of_first 16 (part f 0 n) → Fits w64 (c * 100)
+  crowns_fit c e = record { fits = omega (arith, crowns_small c e) }
 
-          pub money_rest : not s ≡ true → Money.Malformed ≡ read_money f
-          money_rest h = bad (money_by false (not-true s h))
+  pub hellers_fit : (c p : ℕ) → c ≡ number_of_first 16 (part f 0 n) → p ≡ number_of_first 16 (part f (n + 1) (n + 3)) → Fits w64 (c * 100 + p)
+  hellers_fit c p ec ep = record { fits = omega (arith, crowns_small c ec, two_digits_small p ep) }
 
-          pub money_value : (v w : ℕ) → not s ≡ false → v ≡ get_or f (c + 1) 0 - 48 → w ≡ get_or f (c + 2) 0 - 48 → hellers (n * 100 + v * 10 + w) ≡ read_money f
-          money_value v w ys ev ew =
-              rw (hellers_are v w ev ew)
-              (frame_good Money.Absent Money.Malformed (hellers (hellers_in f)) 12 f (is_money f) (is_blank f) long refl filled (money_by true (not-false s ys)))
+  pub hellers_are : (c p : ℕ) → c ≡ number_of_first 16 (part f 0 n) → p ≡ number_of_first 16 (part f (n + 1) (n + 3)) → c * 100 + p ≡ hellers_in f
+  hellers_are c p ec ep = rw (ec, ep, few f 0 n (omega (arith, nine_digits)), few f (n + 1) (n + 3) (omega arith), pre.1)
+
+module _ (f : List ℕ) (b g : Bool) (n : ℕ) (long : length f ≡ 12) (eb : b ≡ is_blank f) (nb : b ≡ false) (eg : g ≡ is_money f) where
+  pub money_value : (v : ℕ) → g ≡ true → v ≡ hellers_in f → hellers v ≡ read_money f
+  money_value v t e = rw e (frame_good Money.Absent Money.Malformed (hellers (hellers_in f)) 12 f (is_money f) b long eb nb (sym eg ∙ t))
+
+  pub money_bad : g ≡ false → Money.Malformed ≡ read_money f
+  money_bad t = frame_bad Money.Absent Money.Malformed (hellers (hellers_in f)) 12 f (is_money f) b long eb nb (sym eg ∙ t)
+
+pub money_good : (f : List ℕ) (g : Bool) → g ≡ is_money f → g ≡ true → is_money f ≡ true
+money_good f g eg t = sym eg ∙ t
 
 -- ---- what a weight weighs
 weight_small : (f : List ℕ) → length f ≡ 6 → is_weight f ≡ true → (number_of (part f 0 2) ≤ 99) × (number_of (part f 3 6) ≤ 999)

@@ -1,8 +1,8 @@
 -- Fields 2 and 3: exactly which eight bytes are a date, and which a time.
 -- Assumes nothing.
-use Prim.Native.Nat.{ℕ, ◌+◌, ◌*◌, ◌≤◌}
+use Prim.Native.Nat.{ℕ, ◌+◌, ◌*◌}
 use mathlib.Core.Path.{◌≡◌, sym}
-use mathlib.Core.Bool.{Bool, true, false, cond, ◌&&◌, ◌||◌}
+use mathlib.Core.Bool.{true, ◌&&◌}
 use mathlib.Core.Logic.{◌↔◌}
 use mathlib.Core.List.{List, ◌∷◌, ◌++◌}
 use native.Mathlib.Omega.{arith}
@@ -14,7 +14,7 @@ use Rattle.text.specs.Lists.{part}
 use Rattle.text.specs.Numbers.{digits}
 use Rattle.text.proofs.Lists.{spelled}
 use Rattle.text.proofs.Numbers.{every_append, length_digits, digits_all, number_digits, digits_number}
-use Rattle.fields.specs.Dates.{is_leap, days_in, real_date, year_of, month_of, day_of, read_date, hours_of, minutes_of, seconds_of, is_time, read_time}
+use Rattle.fields.specs.Dates.{days_in, real_date, year_of, month_of, day_of, read_date, hours_of, minutes_of, seconds_of, is_time, read_time}
 use Rattle.fields.specs.declared.dates.DateReading.TheVariants as Date
 use Rattle.fields.specs.declared.dates.TimeReading.TheVariants as Time
 use Rattle.fields.specs.Meanings.{IsDate, Real, IsTimeOf}

@@ -1,6 +1,7 @@
 pub mod Frames
 pub mod Bits
 pub mod Ways
+pub mod WordText
 pub mod TextWays
 pub mod PostcodeWays
 pub mod AmountWays

@@ -8,15 +8,14 @@ use mathlib.Core.Logic.{◌↔◌}
 use native.Mathlib.Nat.{sub-zero}
 use native.Mathlib.Numerals.{add-one}
 use native.Mathlib.Omega.{arith}
-use borrow.Author.Tests.{ltb-true, ltb-false, leb-true, le-leb, eqb-true, eqb-false, eq-eqb, ne_eqb, not-true}
+use borrow.Author.Tests.{ltb-true, ltb-false, le-leb, eqb-true, eqb-false, eq-eqb, ne_eqb, not-true}
 use borrow.Rule.Slice.PartMut.{mid_len}
-use lib.Dec.{eqb, leb, ltb}
+use lib.Dec.{eqb, ltb}
 use lib.ListN.{length, get_or, drop, replicate, length-append, length-drop, length-replicate, take-append-drop, get_or-append}
 use lib.Seq.{take_at, drop_at, get_or_at, drop-drop, drop-cons, take_all, get_or-take}
 use Rattle.text.specs.Bytes.{is_digit, every, all_digits, is_space, is_blank}
 use Rattle.text.specs.Lists.{part}
 use Rattle.text.specs.Numbers.{number_of, digits, decimal_places, decimal}
-use Rattle.text.proofs.Booleans.{both}
 use Rattle.text.proofs.Numbers.{ten, ten_grows, every_append, length_digits, digits_all, number_digits, number_below, digits_number}
 use Rattle.text.proofs.Decimals.{decimal_places_one, sized_decimal, decimal_read, decimal_written, decimal_first, digits_last}
 use Rattle.text.proofs.Runs.{run_is, run_passes}
@@ -25,7 +24,7 @@ use Rattle.fields.specs.declared.amounts.MoneyReading.TheVariants as Money
 use Rattle.fields.specs.Frame.{framed}
 use Rattle.fields.specs.Amounts.{crown_digits, is_money, hellers_in, hellers, read_money, money_text}
 use Rattle.fields.specs.Calls.{has_money_text, money_bytes}
-use Rattle.fields.proofs.AmountWays.{nine_at_most}
+use Rattle.fields.proofs.AmountWays.{Amount, amount_has, nine_at_most}
 use Rattle.fields.proofs.ByteLaws.{spaces_blank, blank_exactly}
 use Rattle.fields.proofs.FrameLaws.{value_exactly, read_written}
 
@@ -101,32 +100,6 @@ pub money_written_read : (v : ℕ) → v < 100000000000 → read_money (money_te
 money_written_read v h = text_reads v h
 
 -- ---- a good text is the writing of its number
--- what an amount has, with p digits before its dot
-record Amount (f : List ℕ) (p : ℕ) : Type 0 where
-  low : 1 ≤ p
-  high : p ≤ 9
-  first : (eqb p 1 || not (eqb (get_or f 0 0) 48)) ≡ true
-  dot : get_or f p 0 ≡ 46
-  two_digits : all_digits (part f (p + 1) (p + 3)) ≡ true
-  rest : is_blank (part f (p + 3) 12) ≡ true
-
-amount_has : (f : List ℕ) → is_money f ≡ true → Amount f (crown_digits f)
-unfolding is_money
-amount_has f h =
-    let a = both _ (is_blank (part f (crown_digits f + 3) 12)) h in
-    let b = both _ (all_digits (part f (crown_digits f + 1) (crown_digits f + 3))) a.0 in
-    let d = both _ (eqb (get_or f (crown_digits f) 0) 46) b.0 in
-    let e = both _ (eqb (crown_digits f) 1 || not (eqb (get_or f 0 0) 48)) d.0 in
-    let g = both (leb 1 (crown_digits f)) (leb (crown_digits f) 9) e.0 in
-    record {
-      low = leb-true 1 (crown_digits f) g.0;
-      high = leb-true (crown_digits f) 9 g.1;
-      first = e.1;
-      dot = eqb-true (get_or f (crown_digits f) 0) 46 d.1;
-      two_digits = b.1;
-      rest = a.1;
-    }
-
 -- one to nine digits, the first 0 only where it is the only one, are the decimal writing of their number
 crowns_decimal : (c : List ℕ) → 1 ≤ length c → length c ≤ 9 → all_digits c ≡ true → (eqb (length c) 1 || not (eqb (get_or c 0 0) 48)) ≡ true → decimal (number_of c) ≡ c
 crowns_decimal [] low high good first = absurd (omega arith)

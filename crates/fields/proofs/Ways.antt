@@ -1,11 +1,11 @@
 -- The tests of the simple readings, from what the callees gave; dates and times.
 -- Assumes nothing.
-use Prim.Native.Nat.{ℕ, ◌+◌, ◌-◌, ◌*◌, ◌%◌, ◌≤◌, ◌<◌}
+use Prim.Native.Nat.{ℕ, ◌+◌, ◌*◌, ◌≤◌, ◌<◌}
 use mathlib.Core.Path.{◌≡◌, refl, sym, ◌∙◌}
 use mathlib.Core.Bool.{Bool, true, false, cond, not, ◌&&◌, ◌||◌, and_assoc, and-true}
 use mathlib.Core.List.{List}
 use native.Mathlib.Omega.{arith}
-use borrow.Author.Tests.{eqb-true, eq-eqb, ne_eqb, leb-true, le-leb, lt-leb, not-true, not-false}
+use borrow.Author.Tests.{eq-eqb, ne_eqb, leb-true, le-leb, lt-leb, not-true, not-false}
 use mir.Syntax.{w64}
 use mir.Val.{Fits}
 use lib.Dec.{eqb, leb, ltb}
@@ -94,24 +94,13 @@ module _ (f : List ℕ) (b : Bool) (r : Reading) (long : length f ≡ 13) (eb : 
   main_bad a e = frame_bad Main.Absent Main.Malformed (Main.Value (parts_of f)) 13 f (right_id f) b long eb nb (wrong_by (right_id f) a refl e)
 
 -- ---- dates
--- from 2000 to 2099 every fourth year is a leap year
-fourth_leap : (y : ℕ) → (2000 ≤ y) × (y ≤ 2099) → is_leap y ≡ eqb (y % 4) 0
-fourth_leap y years = go (eqb (y % 100) 0) refl
-  where
-    go : (t : Bool) → eqb (y % 100) 0 ≡ t → (eqb (y % 4) 0 && (not t || eqb (y % 400) 0)) ≡ eqb (y % 4) 0
-    go true e =
-        let hundred = eqb-true (y % 100) 0 e in
-        rw (eq-eqb (y % 400) 0 (omega arith)) (and-true (eqb (y % 4) 0))
-    go false e = and-true (eqb (y % 4) 0)
+pub days_leap : (y m : ℕ) (b : Bool) → m ≡ 2 → b ≡ is_leap y → b ≡ true → 29 ≡ days_in y m
+unfolding days_in
+days_leap y m b e g t = rw (eq-eqb m 2 e, ← g, t)
 
-module _ (y m : ℕ) (years : (2000 ≤ y) × (y ≤ 2099)) (february : m ≡ 2) where
-  pub days_leap : y % 4 ≡ 0 → 29 ≡ days_in y m
-  unfolding days_in
-  days_leap e = rw (eq-eqb m 2 february, fourth_leap y years, eq-eqb (y % 4) 0 e)
-
-  pub days_february : (y % 4 ≡ 0 → ⊥) → 28 ≡ days_in y m
-  unfolding days_in
-  days_february n = rw (eq-eqb m 2 february, fourth_leap y years, ne_eqb (y % 4) 0 n)
+pub days_february : (y m : ℕ) (b : Bool) → m ≡ 2 → b ≡ is_leap y → b ≡ false → 28 ≡ days_in y m
+unfolding days_in
+days_february y m b e g t = rw (eq-eqb m 2 e, ← g, t)
 
 pub days_thirty : (y m : ℕ) → (m ≡ 2 → ⊥) → (eqb m 4 || eqb m 6 || eqb m 9 || eqb m 11) ≡ true → 30 ≡ days_in y m
 unfolding days_in

@@ -1,10 +1,9 @@
 // 15 to 17: weight and money.
-ghost use Rattle.std.specs.Prelude.{◌≡◌, false, cond, ◌+◌, ◌/◌, ◌≤◌, ◌<◌, length, take, set, ltb};
+ghost use Rattle.std.specs.Prelude.{◌≡◌, true, cond, ◌+◌, ◌/◌, ◌≤◌, ◌<◌, length, set, ltb};
 ghost use Rattle.text.specs.Promises.{Gives};
-ghost use Rattle.text.specs.Bytes.{is_blank};
 ghost use Rattle.text.specs.Lists.{overlay};
-ghost use Rattle.text.specs.Numbers.{number_of, digits};
-ghost use Rattle.fields.specs.Amounts.{is_weight, read_weight, malformed_weight, weight_text, crown_digits, read_money, malformed_money, absent_money, absent_or_zero_money, money_text};
+ghost use Rattle.text.specs.Numbers.{digits};
+ghost use Rattle.fields.specs.Amounts.{is_weight, read_weight, malformed_weight, weight_text, crown_digits, is_money, hellers_in, read_money, malformed_money, absent_money, absent_or_zero_money, money_text};
 ghost use Rattle.fields.specs.Calls.{MoneyWritten, WeightWritten, sum_of_hellers};
 
 use layout::WIDTHS;
@@ -148,34 +147,25 @@ pub fn read_weight(f: &[u8]) -> WeightReading
     }
 }
 
-// What follows so many digits, which write n: a dot, two digits and nothing but spaces; no leading zero but a lone one.
-fn behind_crowns(f: &[u8], crowns: usize, n: u64) -> MoneyReading
-    requires { (length f.now ≡ 12) × (is_blank f.now ≡ false) × (crowns ≡ crown_digits f.now) × (crowns < 10) × (n ≡ number_of (take crowns f.now)) }
-    ensures { result ≡ read_money f.now }
+// A dot behind so many digits, two digits and nothing but spaces; no leading zero but a lone one.
+fn has_money_form(f: &[u8], crowns: usize) -> bool
+    requires { (length f.now ≡ 12) × (crowns ≡ crown_digits f.now) }
+    ensures { result ≡ is_money f.now }
 {
     if crowns < 1 {
-        return MoneyReading::Malformed;
+        return false;
     }
-    let good = ((crowns == 1) | !(f[0] == b'0')) & (f[crowns] == b'.');
-    if !good {
-        return MoneyReading::Malformed;
+    if crowns > 9 {
+        return false;
     }
-    let tens = f[crowns + 1];
-    if !text::is_digit(tens) {
-        return MoneyReading::Malformed;
-    }
-    let ones = f[crowns + 2];
-    if !text::is_digit(ones) {
-        return MoneyReading::Malformed;
-    }
+    let a = crowns + 1;
     let e = crowns + 3;
-    if !text::blank(&f[e..12]) {
-        return MoneyReading::Malformed;
-    }
-    MoneyReading::Value(Hellers(n * 100 + text::digit_value(tens) * 10 + text::digit_value(ones)))
+    ((crowns == 1) | !(f[0] == b'0'))
+        & (f[crowns] == b'.')
+        & text::all_digits(&f[a..e])
+        & text::blank(&f[e..12])
 }
 
-// In one pass: the number of the crowns is made while their digits are counted.
 pub fn read_money(f: &[u8]) -> MoneyReading
     ensures { Gives (read_money f.now) result }
 {
@@ -185,17 +175,22 @@ pub fn read_money(f: &[u8]) -> MoneyReading
     if text::blank(f) {
         return MoneyReading::Absent;
     }
-    let mut n: u64 = 0;
-    let mut i = 0;
-    while i < 10 {
-        let b = f[i];
-        if !text::is_digit(b) {
-            return behind_crowns(f, i, n);
-        }
-        n = n * 10 + text::digit_value(b);
-        i += 1;
+    let crowns = text::leading_digits(f);
+    if has_money_form(f, crowns) {
+        MoneyReading::Value(Hellers(hellers_in(f, crowns)))
+    } else {
+        MoneyReading::Malformed
     }
-    MoneyReading::Malformed
+}
+
+// The amount with so many digits before its dot.
+fn hellers_in(f: &[u8], crowns: usize) -> u64
+    requires { (length f.now ≡ 12) × (crowns ≡ crown_digits f.now) × (is_money f.now ≡ true) }
+    ensures { result ≡ hellers_in f.now }
+{
+    let a = crowns + 1;
+    let e = crowns + 3;
+    text::number(&f[0..crowns]) * 100 + text::number(&f[a..e])
 }
 
 // Puts the last w decimal places of n from place `at` on.

@@ -1,7 +1,7 @@
 // 2 and 3: date and time.
-ghost use Rattle.std.specs.Prelude.{◌≡◌, ◌≤◌, length};
+ghost use Rattle.std.specs.Prelude.{◌≡◌, length};
 ghost use Rattle.text.specs.Promises.{Gives};
-ghost use Rattle.fields.specs.Dates.{days_in, real_date, read_date, malformed_date, has_time_form, read_time, malformed_time};
+ghost use Rattle.fields.specs.Dates.{is_leap, days_in, real_date, read_date, malformed_date, has_time_form, read_time, malformed_time};
 
 use layout::WIDTHS;
 
@@ -45,13 +45,17 @@ impl TimeReading {
     }
 }
 
-// Of these years every fourth is a leap year, 2000 too.
+fn is_leap(y: u64) -> bool
+    ensures { result ≡ is_leap y }
+{
+    (y % 4 == 0) & (!(y % 100 == 0) | (y % 400 == 0))
+}
+
 fn days_in(y: u64, m: u64) -> u64
-    requires { (2000 ≤ y) × (y ≤ 2099) }
     ensures { result ≡ days_in y m }
 {
     if m == 2 {
-        if y % 4 == 0 {
+        if is_leap(y) {
             return 29;
         }
         return 28;

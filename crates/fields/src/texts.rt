@@ -1,5 +1,6 @@
 // 4, 7 to 11, 13, 20, 26: texts and e-mail.
-ghost use Rattle.std.specs.Prelude.{◌≡◌, true, cond, ◌≤◌, length, get_or, drop, eqb};
+ghost use Rattle.std.specs.Prelude.{◌≡◌, true, cond, ◌+◌, ◌≤◌, length, get_or, take, drop, eqb};
+ghost use Rattle.std.specs.Int.Bits.{bit_and};
 ghost use Rattle.text.specs.Promises.{Gives};
 ghost use Rattle.text.specs.Bytes.{every, is_blank, run};
 ghost use Rattle.fields.specs.Texts.{is_text, filled, read_text, is_plain, contains, is_host, read_mail, malformed_text, absent_text};
@@ -45,17 +46,46 @@ fn is_text(b: u8) -> bool
     (32 <= b) & (b != 127)
 }
 
-// Whether all bytes are text. With no way out before the end the compiler takes sixteen bytes at once.
+// The low seven bits of each byte of a word.
+fn low_bits(w: u64) -> u64
+    ensures { (result ≡ bit_and w 9187201950435737471) × (result ≤ 9187201950435737471) }
+{
+    w & 0x7f7f_7f7f_7f7f_7f7f
+}
+
+// Whether eight bytes from place i on are text, told at once. With t the low seven bits of a byte, t + 60h has bit 7 where t is 20h or more,
+// and t + 1 where it is 7Fh.
+fn text8(f: &[u8], i: usize) -> bool
+    requires { i + 8 ≤ length f.now }
+    ensures { result ≡ every is_text (take 8 (drop i f.now)) }
+{
+    let w = text::word(&f[i..]);
+    let t = low_bits(w);
+    (((t + 0x6060_6060_6060_6060) ^ (t + 0x0101_0101_0101_0101)) | w) & 0x8080_8080_8080_8080
+        == 0x8080_8080_8080_8080
+}
+
 pub fn all_text(f: &[u8]) -> bool
     ensures { Gives (every is_text f.now) result }
 {
-    let mut good = true;
     let mut i = 0;
+    while 8 <= f.len() - i {
+        if !text8(f, i) {
+            return false;
+        }
+        i += 8;
+    }
+    // The last eight at once, as in `text::blank`.
+    if 8 <= f.len() {
+        return text8(f, f.len() - 8);
+    }
     while i < f.len() {
-        good = good & is_text(f[i]);
+        if !is_text(f[i]) {
+            return false;
+        }
         i += 1;
     }
-    good
+    true
 }
 
 // A place from which on there are only spaces: found by eights from the end, as most of a field is often blank.

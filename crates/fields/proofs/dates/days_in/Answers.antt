@@ -2,8 +2,8 @@
 use Rattle.fields.proofs.Ways.{days_leap, days_february, days_thirty, days_other}
 use Rattle.fields.proofs.dates.days_in.Goals as goal
 
-pub returns-then-y-eq0 : goal.returns-then-y-eq0
-returns-then-y-eq0 c = search days_leap
+pub returns-then-is_leap : goal.returns-then-is_leap
+returns-then-is_leap c = search days_leap
 
 pub returns-then-m-eq2 : goal.returns-then-m-eq2
 returns-then-m-eq2 c = search days_february

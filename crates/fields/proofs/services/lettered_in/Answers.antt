@@ -1,6 +1,5 @@
 -- `fields::services::lettered_in`.
 use native.Mathlib.Omega.{arith}
-use Prim.Native.Nat.{◌-◌}
 use Rattle.fields.proofs.CodeWays.{letters_start, letters_found, letters_on, letters_none}
 use Rattle.fields.proofs.services.lettered_in.Goals as goal
 

@@ -1,6 +1,5 @@
 -- `fields::services::scan_services`.
 use native.Mathlib.Omega.{arith}
-use Prim.Native.Nat.{◌-◌}
 use Rattle.fields.proofs.ServiceWays.{scan_start, scan_on, scan_stops, scan_ends}
 use Rattle.fields.proofs.services.scan_services.Goals as goal
 

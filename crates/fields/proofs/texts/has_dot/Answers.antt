@@ -1,7 +1,6 @@
 -- `fields::texts::has_dot`.
 use native.Mathlib.Omega.{arith}
 use mathlib.Core.Path.{refl}
-use Prim.Native.Nat.{◌-◌}
 use Rattle.fields.proofs.TextWays.{dot_here, dot_on, dot_none}
 use Rattle.fields.proofs.texts.has_dot.Goals as goal
 

@@ -1,6 +1,5 @@
 -- `fields::texts::plain_run`.
 use native.Mathlib.Omega.{arith}
-use Prim.Native.Nat.{◌-◌}
 use native.Mathlib.Nat.{zero-add}
 use Rattle.text.proofs.Loops.{run_stops, run_on, run_ends}
 use Rattle.fields.specs.Texts.{is_plain}

@@ -1,0 +1,6 @@
+-- `fields::texts::low_bits`.
+use Rattle.fields.proofs.WordText.{low_bits_small}
+use Rattle.fields.proofs.texts.low_bits.Goals as goal
+
+pub returns : goal.returns
+returns c = search low_bits_small
