@@ -12,7 +12,7 @@ use lib.ListN.{length, get_or, get_or-eq_default}
 use Rattle.ident.specs.declared.consignor.Consignor.{Consignor}
 use Rattle.ident.specs.declared.consignor.Consignor.TheVariants.{Nobody}
 use Rattle.ident.specs.Identifier.{right_id}
-use Rattle.ident.specs.Consignor.{consignor_in, another, Another, AnotherIn, AllTheSame, or_named, first_named}
+use Rattle.ident.specs.Consignor.{consignor_in, another, Another, AllTheSame, or_named, first_named}
 use Rattle.ident.proofs.Consignors as Ident
 use Rattle.layout.specs.Layout.{field_of}
 use Rattle.record.specs.Consignors.{consignor_of, consignors_of, strays, Strays, OneConsignor, first_of}

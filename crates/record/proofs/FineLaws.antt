@@ -2,13 +2,10 @@
 -- Assumes nothing.
 use Prim.Native.Nat.{ℕ, suc, ◌+◌, ◌-◌, ◌≤◌, ◌<◌}
 use mathlib.Core.Path.{◌≡◌, refl, sym, ap, ◌∙◌}
-use mathlib.Core.Bool.{Bool, true, false, cond, not, ◌&&◌, ◌||◌, and-false, not-not}
+use mathlib.Core.Bool.{Bool, true, false, not, ◌&&◌, ◌||◌, and-false, not-not}
 use mathlib.Core.List.{List, [], ◌∷◌, ◌++◌}
-use mathlib.Core.Logic.{⊎_elim}
 use native.Mathlib.Omega.{arith}
 use borrow.Author.Tests.{eq-eqb, ne_eqb, eqb-true, not-false}
-use denote.Enum.Declared.{tag_of}
-use types.Run.{OneOf}
 use lib.Dec.{eqb, ltb}
 use lib.ListN.{length, get_or, take, drop, length-take, length-drop}
 use lib.Seq.{take-take, take-add, drop-drop, get_or-take, get_or-drop}
@@ -28,7 +25,6 @@ use Rattle.fields.specs.declared.amounts.MoneyReading.{MoneyReading}
 use Rattle.fields.specs.declared.amounts.MoneyReading.TheVariants as Money
 use Rattle.fields.specs.declared.amounts.WeightReading.{WeightReading}
 use Rattle.fields.specs.declared.amounts.WeightReading.TheVariants as Weight
-use Rattle.fields.specs.contracts.amounts.WeightReading as Weights
 use Rattle.fields.specs.declared.numbers.NumberReading.{NumberReading}
 use Rattle.fields.specs.declared.others.CountryReading.{CountryReading}
 use Rattle.fields.specs.declared.others.EmptyReading.{EmptyReading}
@@ -52,7 +48,7 @@ use Rattle.record.specs.declared.readings.Piece.{Piece}
 use Rattle.record.specs.declared.readings.When.{When}
 use Rattle.record.specs.declared.rules.Travel.{Travel}
 use Rattle.record.specs.declared.RecordCheck.{RecordCheck}
-use Rattle.record.specs.declared.Judged.{Judged}
+use Rattle.record.specs.declared.CheckWithAmounts.{CheckWithAmounts}
 use Rattle.record.specs.Table.{Rule, Case, first_case, verdict, places_from}
 use Rattle.record.specs.Columns.{case_whens, whens}
 use Rattle.record.specs.Readings.{when_of, address_of, street_of, contact_of, goods_of, marks_of, piece_of, tail_of, malformed_status}
@@ -261,12 +257,12 @@ contact_is_fine w a b c ea eb ec = rw (← ea, ← eb, ← ec) (none_three a b c
 pub piece_is_fine : (w : Piece) (a b c : Bool) → a ≡ malformed_main w.main → b ≡ malformed_number w.serial → c ≡ malformed_number w.pieces → not (a || b || c) ≡ none_of (piece_flags w)
 piece_is_fine w a b c ea eb ec = rw (← ea, ← eb, ← ec) (none_three a b c)
 
-pub goods_unweighed : (to_be_posted : Bool) (g : Goods) → OneOf (0 ∷ 2 ∷ []) (tag_of Weights.the_type g.weight) → false ≡ none_of (goods_breaks to_be_posted g)
+pub goods_unweighed : (to_be_posted : Bool) (g : Goods) → ((x : Grams) → g.weight ≡ Weight.Value x → ⊥) → false ≡ none_of (goods_breaks to_be_posted g)
 goods_unweighed to_be_posted g t = rw (none g.weight t)
   where
-    none : (w : WeightReading) → OneOf (0 ∷ 2 ∷ []) (tag_of Weights.the_type w) → absent_or_zero_weight w ≡ true
+    none : (w : WeightReading) → ((x : Grams) → w ≡ Weight.Value x → ⊥) → absent_or_zero_weight w ≡ true
     none Weight.Absent h = refl
-    none (Weight.Value x) h = absurd (⊎_elim (λ (e : ◌≡◌ {A = ℕ} 1 0). omega arith) (λ (e : ◌≡◌ {A = ℕ} 1 2). omega arith) h)
+    none (Weight.Value x) h = absurd (h x refl)
     none Weight.Malformed h = refl
 
 none_goods : (z c p s t : Bool) → (not z && not (c || p || s) && not t) ≡ none_of (z ∷ false ∷ c ∷ p ∷ s ∷ t ∷ [])
@@ -490,6 +486,10 @@ module _ (known : Known) (to_be_posted : Bool) (rec : List ℕ) (k : RecordCheck
       → record { check = record { answer = r; consignor = k.consignor }; status = g.status; cash = g.cash; price = g.price } ≡ with_amounts (verdict (table (terms to_be_posted known) rec)) rec
   judged_so r er = rw (er, ap (λ (x : RecordCheck). x.consignor) ek, eg)
 
+  pub judged_slow : (s : RecordCheck) → s ≡ with_consignor (verdict (table (terms to_be_posted known) rec)) rec
+      → record { check = record { answer = s.answer; consignor = k.consignor }; status = g.status; cash = g.cash; price = g.price } ≡ with_amounts (verdict (table (terms to_be_posted known) rec)) rec
+  judged_slow s es = judged_so s.answer (ap (λ (x : RecordCheck). x.answer) es)
+
   pub judged_fine : (b : Bool) → (b ≡ true → Fine known to_be_posted rec) → (eqb k.answer.code 0 && b) ≡ true
       → record { check = record { answer = accepted; consignor = k.consignor }; status = g.status; cash = g.cash; price = g.price } ≡ with_amounts (verdict (table (terms to_be_posted known) rec)) rec
   judged_fine b fine z =
@@ -502,9 +502,9 @@ pub judged_wide : (t : Terms) (rec : List ℕ) → (length rec ≡ 399 → ⊥)
 unfolding record_answer field_of consignor_in right_id framed
 judged_wide t rec n = rw (ne_eqb (length rec) 399 n)
 
-pub judged_long : (t : Terms) (rec : List ℕ) (r : Judged) → length rec ≡ 399 → r ≡ with_amounts (verdict (table t rec)) rec → r ≡ with_amounts (record_answer t rec) rec
+pub judged_long : (t : Terms) (rec : List ℕ) (r : CheckWithAmounts) → length rec ≡ 399 → r ≡ with_amounts (verdict (table t rec)) rec → r ≡ with_amounts (record_answer t rec) rec
 unfolding record_answer
 judged_long t rec r e g = rw (eq-eqb (length rec) 399 e) g
 
-pub judged_check : (a : Answer) (rec : List ℕ) (r : Judged) → r ≡ with_amounts a rec → r.check ≡ with_consignor a rec
-judged_check a rec r e = ap (λ (x : Judged). x.check) e
+pub judged_check : (a : Answer) (rec : List ℕ) (r : CheckWithAmounts) → r ≡ with_amounts a rec → r.check ≡ with_consignor a rec
+judged_check a rec r e = ap (λ (x : CheckWithAmounts). x.check) e

@@ -2,20 +2,20 @@
 -- no other code than those of `record_codes`.
 -- Assumes nothing.
 use Prim.Native.Nat.{ℕ}
-use mathlib.Core.Path.{◌≡◌, refl, sym, ap, ◌∙◌}
-use mathlib.Core.Bool.{Bool, true, false, cond, ◌||◌}
-use mathlib.Core.List.{List, [], ◌∷◌, ◌++◌, map}
+use mathlib.Core.Path.{◌≡◌, refl, sym, ap, subst, ◌∙◌}
+use mathlib.Core.Bool.{Bool, true, false, cond}
+use mathlib.Core.List.{List, [], ◌∷◌, map}
 use mathlib.Core.Logic.{◌↔◌}
 use borrow.Author.Tests.{eq-eqb}
 use lib.Dec.{eqb}
 use lib.ListN.{length}
 use Rattle.text.specs.declared.Answer.{Answer}
-use Rattle.text.specs.Answers.{answer, accepted, wrong_length}
+use Rattle.text.specs.Answers.{answer, wrong_length}
 use Rattle.text.proofs.Booleans.{clash}
-use Rattle.record.specs.Table.{Case, Rule, first_case, first_rule, verdict, any_case, broken, code_of}
+use Rattle.record.specs.Table.{Case, Rule, first_case, verdict, any_case, code_of}
 use Rattle.record.specs.Rules.{Terms, table, record_answer}
 use Rattle.record.specs.Codes.{table_codes, record_codes, lacks}
-use Rattle.record.specs.Outcomes.{no_case, none_broken, FirstCase, FirstBroken, TableOutcome, good, bad}
+use Rattle.record.specs.Outcomes.{no_case, none_broken, FirstCase, TableOutcome, good, bad}
 use Rattle.record.proofs.Codes.{codes_in_order, lacks_other, lacks_behind, lacks_there, none_zero}
 
 -- ---- one rule
@@ -78,7 +78,7 @@ table_code rs = go (outcome rs)
     go : {a : Answer} → TableOutcome rs a → lacks a.code (0 ∷ map code_of rs) ≡ false
     go (good g e) = rw e
     go (bad g f) =
-        rw (ap (λ (x : Answer). x.code) f.case.says)
+        subst (λ (x : Answer). lacks x.code (0 ∷ map code_of rs) ≡ false) (sym f.case.says)
         (lacks_behind f.here.code 0 (map code_of rs) (rw f.split (lacks_there f.before f.here f.after)))
 
 pub none_other : (c : ℕ) (rs : List Rule) → lacks c (0 ∷ map code_of rs) ≡ true → (verdict rs).code ≡ c → ⊥

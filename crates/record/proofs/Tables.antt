@@ -1,17 +1,17 @@
 -- Laws on tables of rules, over any table.
 -- Assumes nothing.
-use Prim.Native.Nat.{ℕ, zero, suc, ◌+◌, ◌≤◌, ◌<◌}
+use Prim.Native.Nat.{ℕ, suc, ◌+◌, ◌≤◌, ◌<◌}
 use mathlib.Core.Path.{◌≡◌, refl, sym, ap, ◌∙◌}
-use mathlib.Core.Bool.{Bool, true, false, cond, not, ◌&&◌, ◌||◌}
+use mathlib.Core.Bool.{Bool, true, false, cond}
 use mathlib.Core.List.{List, [], ◌∷◌, ◌++◌}
 use native.Mathlib.Nat.{add-zero}
 use native.Mathlib.Omega.{arith}
-use borrow.Author.Tests.{eq-eqb, ne_eqb}
+use borrow.Author.Tests.{ne_eqb}
 use lib.Dec.{eqb}
 use lib.ListN.{length, get_or}
 use Rattle.text.specs.declared.Answer.{Answer}
 use Rattle.text.specs.Answers.{answer, accepted, or_else}
-use Rattle.record.specs.Table.{Case, Rule, at, rule, first_case, first_rule, verdict, places_from, any_case, broken}
+use Rattle.record.specs.Table.{Case, Rule, rule, first_case, verdict, places_from}
 use Rattle.record.specs.Columns.{case_whens, whens, case_codes, code_column, case_places, place_column, first_true}
 
 -- ---- one rule behind another

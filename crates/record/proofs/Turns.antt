@@ -11,7 +11,7 @@ use lib.ListN.{length}
 use Rattle.text.specs.declared.Answer.{Answer}
 use Rattle.text.specs.Answers.{answer, wrong_length}
 use Rattle.text.proofs.Booleans.{clash}
-use Rattle.record.specs.Table.{Case, Rule, at, rule, first_case, verdict, broken, code_of}
+use Rattle.record.specs.Table.{Case, Rule, at, rule, first_case, verdict, code_of}
 use Rattle.record.specs.Codes.{lacks}
 use Rattle.record.specs.Rules.{Terms, table, record_answer}
 use Rattle.record.specs.Outcomes.{no_case, none_broken, ExactlyAt, InItsTurn}

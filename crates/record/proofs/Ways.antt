@@ -1,15 +1,12 @@
 -- Each way out of the functions, from the facts that are known there.
 -- Assumes nothing.
-use Prim.Native.Nat.{ℕ, zero, suc, ◌+◌, ◌-◌, ◌≤◌, ◌<◌}
+use Prim.Native.Nat.{ℕ, suc, ◌+◌, ◌≤◌, ◌<◌}
 use mathlib.Core.Path.{◌≡◌, refl, sym, ap, ap₂, ◌∙◌}
-use mathlib.Core.Bool.{Bool, true, false, cond, not, ◌&&◌, ◌||◌, and-false}
+use mathlib.Core.Bool.{Bool, true, false, not, ◌&&◌, ◌||◌, and-false}
 use mathlib.Core.List.{List, [], ◌∷◌, ◌++◌}
-use mathlib.Core.Logic.{⊎_elim}
 use native.Mathlib.Omega.{arith}
 use native.Mathlib.Numerals.{add-one}
 use borrow.Author.Tests.{eq-eqb, ne_eqb, not-true, not-false}
-use denote.Enum.Declared.{tag_of}
-use types.Run.{OneOf}
 use lib.Dec.{eqb, ltb}
 use lib.ListN.{length, get_or, drop, drop_of_length-le}
 use lib.Seq.{drop-cons}
@@ -29,8 +26,6 @@ use Rattle.layout.specs.Layout.{field_of}
 use Rattle.psc.specs.Table.{right_table, wrong_table, Known}
 use Rattle.psc.specs.Search.{found}
 use Rattle.psc.proofs.SearchLaws.{found_is_holds}
-use Rattle.fields.specs.contracts.amounts.WeightReading as Weights
-use Rattle.fields.specs.contracts.postcodes.PostcodeReading as Postcodes
 use Rattle.fields.specs.declared.amounts.Grams.{Grams}
 use Rattle.fields.specs.declared.amounts.WeightReading.{WeightReading}
 use Rattle.fields.specs.declared.amounts.WeightReading.TheVariants as Weight
@@ -142,10 +137,10 @@ behind p q xs ys a b r e ea eb er = er ∙ rw (ea, eb) (groups_join p q xs ys e)
 
 pub early_is : (rec : List ℕ) (w : When) (a : Address) (s : Street) (c : Contact) (a1 a2 a3 a4 r3 r2 r1 : Answer)
     → s ≡ street_of rec → a3 ≡ Malformed 8 (street_flags s) → a4 ≡ Malformed 12 (contact_flags c) → r3 ≡ or_else a3 a4 → a2 ≡ Malformed 4 (address_flags a) → r2 ≡ or_else a2 r3
-    → a1 ≡ Malformed 2 (when_flags w) → r1 ≡ or_else a1 r2
-    → r1 ≡ Malformed 2 (early_flags w a (street_of rec) c)
-early_is rec w a s c a1 a2 a3 a4 r3 r2 r1 es e3 e4 q3 e2 q2 e1 q1 =
-    behind 2 4 (when_flags w) (address_flags a ++ (street_flags (street_of rec) ++ contact_flags c)) a1 r2 r1 refl e1
+    → w ≡ when_of rec → a1 ≡ Malformed 2 (when_flags w) → r1 ≡ or_else a1 r2
+    → r1 ≡ Malformed 2 (early_flags (when_of rec) a (street_of rec) c)
+early_is rec w a s c a1 a2 a3 a4 r3 r2 r1 es e3 e4 q3 e2 q2 ew e1 q1 =
+    behind 2 4 (when_flags (when_of rec)) (address_flags a ++ (street_flags (street_of rec) ++ contact_flags c)) a1 r2 r1 refl (e1 ∙ rw ew)
     (behind 4 8 (address_flags a) (street_flags (street_of rec) ++ contact_flags c) a2 r3 r2 refl e2
     (behind 8 12 (street_flags (street_of rec)) (contact_flags c) a3 a4 r3 refl (e3 ∙ rw es) e4 q3) q2) q1
 
@@ -158,12 +153,12 @@ late_is to_be_posted rec g m p t a1 a2 a3 a4 r3 r2 r1 e3 et e4 q3 e2 q2 e1 q1 =
     (behind 20 22 (marks_flags m) (piece_flags p ++ tail_flags (tail_of rec)) a2 r3 r2 refl e2
     (behind 22 25 (piece_flags p) (tail_flags (tail_of rec)) a3 a4 r3 refl e3 (e4 ∙ rw et) q3) q2) q1
 
-pub form_is : (to_be_posted : Bool) (rec : List ℕ) (w : When) (a : Address) (c : Contact) (g : Goods) (m : Marks) (p : Piece) (a1 a2 a3 r2 r1 : Answer)
-    → w ≡ when_of rec → a2 ≡ Malformed 2 (early_flags w a (street_of rec) c) → a3 ≡ Malformed 15 (late_flags to_be_posted g m p (tail_of rec)) → r2 ≡ or_else a2 a3
+pub form_is : (to_be_posted : Bool) (rec : List ℕ) (a : Address) (c : Contact) (g : Goods) (m : Marks) (p : Piece) (a1 a2 a3 r2 r1 : Answer)
+    → a2 ≡ Malformed 2 (early_flags (when_of rec) a (street_of rec) c) → a3 ≡ Malformed 15 (late_flags to_be_posted g m p (tail_of rec)) → r2 ≡ or_else a2 a3
     → a1 ≡ verdict (identifier_rule rec ∷ []) → r1 ≡ or_else a1 r2
     → r1 ≡ verdict (form_of to_be_posted rec a c g m p)
-form_is to_be_posted rec w a c g m p a1 a2 a3 r2 r1 ew e2 e3 q2 e1 q1 =
-    let rest = behind 2 15 (early_flags (when_of rec) a (street_of rec) c) (late_flags to_be_posted g m p (tail_of rec)) a2 a3 r2 refl (e2 ∙ rw ew) e3 q2 in
+form_is to_be_posted rec a c g m p a1 a2 a3 r2 r1 e2 e3 q2 e1 q1 =
+    let rest = behind 2 15 (early_flags (when_of rec) a (street_of rec) c) (late_flags to_be_posted g m p (tail_of rec)) a2 a3 r2 refl e2 e3 q2 in
     q1 ∙ rw (e1, rest) (rule_then (identifier_rule rec) (malformed_rule (malformed to_be_posted (when_of rec) a (street_of rec) c g m p (tail_of rec)) ∷ []) (λ e. omega arith))
 
 -- ---- address and weight
@@ -187,10 +182,9 @@ code_with_41 first second p s e = rw e
 pub code_without : (first second p : ℕ) (s : Bool) → s ≡ false → answer second p ≡ verdict (two_codes first second p true s)
 code_without first second p s e = rw e
 
-pub postcode_other : (known : Known) (w : PostcodeReading) (s : Bool) → OneOf (0 ∷ 2 ∷ 3 ∷ []) (tag_of Postcodes.the_type w) → accepted ≡ verdict (postcode_rules known w s)
+pub postcode_other : (known : Known) (w : PostcodeReading) (s : Bool) → ((n : ℕ) → w ≡ Postcode.Domestic n → ⊥) → accepted ≡ verdict (postcode_rules known w s)
 postcode_other known Postcode.Absent s t = refl
-postcode_other known (Postcode.Domestic n) s t =
-    absurd (⊎_elim (λ (e : ◌≡◌ {A = ℕ} 1 0). omega arith) (⊎_elim (λ (e : ◌≡◌ {A = ℕ} 1 2). omega arith) (λ (e : ◌≡◌ {A = ℕ} 1 3). omega arith)) t)
+postcode_other known (Postcode.Domestic n) s t = absurd (t n refl)
 postcode_other known (Postcode.Foreign n) s t = refl
 postcode_other known Postcode.Malformed s t = refl
 
@@ -201,9 +195,9 @@ pub postcode_unknown : (known : Known) (w : PostcodeReading) (n : ℕ) (s f : Bo
     → r ≡ verdict (postcode_rules known w s)
 postcode_unknown known w n s f r e k t g = rw (e, ← k, t) g
 
-pub weight_none : (w : WeightReading) (s : Bool) (r : Answer) → OneOf (0 ∷ 2 ∷ []) (tag_of Weights.the_type w) → r ≡ verdict (two_codes 31 34 15 true s) → r ≡ verdict (weight_rules w s)
+pub weight_none : (w : WeightReading) (s : Bool) (r : Answer) → ((g : Grams) → w ≡ Weight.Value g → ⊥) → r ≡ verdict (two_codes 31 34 15 true s) → r ≡ verdict (weight_rules w s)
 weight_none Weight.Absent s r t e = e
-weight_none (Weight.Value g) s r t e = absurd (⊎_elim (λ (e : ◌≡◌ {A = ℕ} 1 0). omega arith) (λ (e : ◌≡◌ {A = ℕ} 1 2). omega arith) t)
+weight_none (Weight.Value g) s r t e = absurd (t g refl)
 weight_none Weight.Malformed s r t e = e
 
 pub weight_zero : (w : WeightReading) (g : Grams) (s : Bool) (r : Answer) → w ≡ Weight.Value g → g.0 ≡ 0 → r ≡ verdict (two_codes 31 34 15 true s) → r ≡ verdict (weight_rules w s)
@@ -260,9 +254,21 @@ content_is known rec a c g m p v q f t a1 a2 a3 a4 r3 r2 r1 ev eq ef et e4 e3 g3
 module _ (known : Known) (to_be_posted : Bool) (rec : List ℕ) (a : Address) (c : Contact) (g : Goods) (m : Marks) (p : Piece) (form content r : Answer)
     (ea : a ≡ address_of rec) (ec : c ≡ contact_of rec) (eg : g ≡ goods_of rec) (em : m ≡ marks_of rec) (ep : p ≡ piece_of rec)
     (ef : form ≡ verdict (form_of to_be_posted rec a c g m p)) (en : content ≡ verdict (content_of known rec a c g m p)) (er : r ≡ or_else form content) where
-  pub table_judged : r ≡ verdict (table (terms to_be_posted known) rec)
+  table_judged : r ≡ verdict (table (terms to_be_posted known) rec)
   unfolding table
   table_judged = rw (er, ef, en, ea, ec, eg, em, ep) (table_then (form_rules to_be_posted rec) (content_rules known rec) (λ e. omega arith, (λ e. omega arith, tt)))
+
+  pub record_judged : (k : RecordCheck) → k ≡ with_consignor (verdict (identifier_rule rec ∷ [])) rec
+      → record { answer = r; consignor = k.consignor } ≡ with_consignor (verdict (table (terms to_be_posted known) rec)) rec
+  record_judged k ek = ap₂ {C = RecordCheck} (λ (x : Answer) (y : Consignor). record { answer = x; consignor = y }) table_judged (ap (λ (x : RecordCheck). x.consignor) ek)
+
+pub record_wide : (t : Terms) (rec : List ℕ) → (length rec ≡ 399 → ⊥) → record { answer = wrong_length; consignor = Nobody } ≡ with_consignor (record_answer t rec) rec
+unfolding record_answer field_of consignor_in right_id
+record_wide t rec n = rw (ne_eqb (length rec) 399 n)
+
+pub record_long : (t : Terms) (rec : List ℕ) (r : RecordCheck) → length rec ≡ 399 → r ≡ with_consignor (verdict (table t rec)) rec → r ≡ with_consignor (record_answer t rec) rec
+unfolding record_answer
+record_long t rec r e g = rw (eq-eqb (length rec) 399 e) g
 
 -- ---- under a lent table
 pub table_wrong : (to_be_posted : Bool) (psc rec : List ℕ) (b : Bool) (k : RecordCheck) → b ≡ right_table psc → not b ≡ true → k ≡ with_consignor (verdict (identifier_rule rec ∷ [])) rec

@@ -1,6 +1,6 @@
 -- A table of rules by columns, as the code has it: conditions, codes and places, case by case. `Table` says what it means.
 -- Assumes nothing.
-use Rattle.std.specs.Prelude.{ℕ, suc, Bool, cond, List, [], ◌∷◌, ◌++◌}
+use Rattle.std.specs.Prelude.{ℕ, suc, Bool, cond, List, [], ◌∷◌}
 use Rattle.record.specs.Table.{Case, Rule}
 
 abbrev pub case_whens : List Case → List Bool → List Bool

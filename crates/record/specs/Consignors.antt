@@ -7,7 +7,7 @@ use Rattle.ident.specs.declared.consignor.Consignor.{Consignor}
 use Rattle.ident.specs.Consignor.{consignor_in, another_in, Another, first_named}
 use Rattle.layout.specs.Layout.{field_of}
 use Rattle.record.specs.declared.RecordCheck.{RecordCheck}
-use Rattle.record.specs.declared.Judged.{Judged}
+use Rattle.record.specs.declared.CheckWithAmounts.{CheckWithAmounts}
 use Rattle.record.specs.Readings.{goods_of}
 
 -- ---- nobody's where field 1 is no right identifier, and where there are not 399 bytes
@@ -22,7 +22,7 @@ abbrev pub with_consignor : Answer → List ℕ → RecordCheck
 with_consignor a rec = record { answer = a; consignor = consignor_of rec }
 
 -- the same, and beside it status, cash on delivery and price specified as they were read
-abbrev pub with_amounts : Answer → List ℕ → Judged
+abbrev pub with_amounts : Answer → List ℕ → CheckWithAmounts
 with_amounts a rec = record { check = with_consignor a rec; status = (goods_of rec).status; cash = (goods_of rec).cash; price = (goods_of rec).price }
 
 -- ---- a record behind others, cancelled or not: it names a consignor, and one of them names another

@@ -1,7 +1,7 @@
 -- When a record breaks no rule, by groups of conditions that are asked together, each false. Private functions speak of it, and no promise of a public call
 -- does: a record that is fine is accepted by its table (`proofs/FineLaws: fine_accepted`).
 -- Assumes nothing.
-use Rattle.std.specs.Prelude.{ℕ, ◌≡◌, Bool, true, not, ◌&&◌, ◌||◌, List, [], ◌∷◌, ◌++◌, length, get_or, take, drop, eqb}
+use Rattle.std.specs.Prelude.{ℕ, ◌≡◌, Bool, true, not, ◌&&◌, ◌||◌, List, [], ◌∷◌, length, get_or, take, drop, eqb}
 use Rattle.text.specs.Bytes.{every, is_blank}
 use Rattle.psc.specs.Table.{Known}
 use Rattle.fields.specs.declared.amounts.MoneyReading.{MoneyReading}

@@ -29,7 +29,7 @@ use Rattle.record.specs.declared.readings.When.{When}
 use Rattle.record.specs.declared.rules.Asked.{Asked}
 use Rattle.record.specs.declared.rules.Given.{Given}
 use Rattle.record.specs.declared.rules.Travel.{Travel}
-use Rattle.record.specs.Table.{Case, Rule, at, rule, places_from, verdict}
+use Rattle.record.specs.Table.{Rule, at, rule, places_from, verdict}
 use Rattle.record.specs.Readings.{when_of, address_of, street_of, contact_of, goods_of, marks_of, piece_of, tail_of, malformed_status}
 
 -- ---- what a record is judged by beside its bytes: whether it is to be posted, and which postcodes exist

@@ -29,38 +29,43 @@ pub struct RecordCheck {
 
 // The same, and beside it what the totals want: what was read of fields 19, 16 and 17.
 #[derive(Clone, Copy)]
-pub struct Judged {
+pub struct CheckWithAmounts {
     pub check: RecordCheck,
     pub status: StatusReading,
     pub cash: MoneyReading,
     pub price: MoneyReading,
 }
 
-// The answer to a record, rule by rule in their order. What was read of it is handed on.
-fn first_break(
-    rec: &[u8],
-    identifier: Answer,
-    when: When,
-    contact: Contact,
-    goods: Goods,
-    piece: Piece,
-    psc: &[u32],
-    fresh: bool,
-) -> Answer
-    requires { (identifier ≡ verdict (identifier_rule rec.now ∷ [])) × (when ≡ when_of rec.now) × (contact ≡ contact_of rec.now) × (goods ≡ goods_of rec.now) × (piece ≡ piece_of rec.now) }
-    ensures { result ≡ verdict (table (terms fresh (found psc.now)) rec.now) }
+// What is given for a record of 399 bytes, rule by rule in their order; a fresh one is to be posted.
+fn judged(rec: &[u8], psc: &[u32], fresh: bool) -> RecordCheck
+    ensures { result ≡ with_consignor (verdict (table (terms fresh (found psc.now)) rec.now)) rec.now }
 {
+    let identifier = rules::identifier_check(rec);
+    let consignor = identifier.consignor;
     let address = readings::read_address(rec);
+    let contact = readings::read_contact(rec);
+    let goods = readings::read_goods(rec);
     let marks = readings::read_marks(rec);
+    let piece = readings::read_piece(rec);
     let form = rules::form_answer(
-        rec, identifier, when, address, contact, goods, marks, piece, fresh,
+        rec,
+        identifier.answer,
+        address,
+        contact,
+        goods,
+        marks,
+        piece,
+        fresh,
     );
     let content = rules::content_answer(rec, address, contact, goods, marks, piece, psc);
-    form.or_else(content)
+    RecordCheck {
+        answer: form.or_else(content),
+        consignor,
+    }
 }
 
 // What is given for a whole record, of 399 bytes; a fresh one is to be posted.
-fn judge_whole(rec: &[u8], psc: &[u32], fresh: bool) -> Judged
+fn judge_whole(rec: &[u8], psc: &[u32], fresh: bool) -> CheckWithAmounts
     requires { length rec.now ≡ 399 }
     ensures { result ≡ with_amounts (verdict (table (terms fresh (found psc.now)) rec.now)) rec.now }
 {
@@ -75,12 +80,12 @@ fn judge_whole(rec: &[u8], psc: &[u32], fresh: bool) -> Judged
     let answer = if fine {
         ACCEPTED
     } else {
-        first_break(rec, said, when, contact, goods, piece, psc, fresh)
+        judged(rec, psc, fresh).answer
     };
     let status = goods.status;
     let cash = goods.cash;
     let price = goods.price;
-    Judged {
+    CheckWithAmounts {
         check: RecordCheck { answer, consignor },
         status,
         cash,
@@ -89,11 +94,11 @@ fn judge_whole(rec: &[u8], psc: &[u32], fresh: bool) -> Judged
 }
 
 // For callers that have tested the table, once for many records: the answer by what a look finds in it. In a right one that is what it holds.
-pub fn judge(rec: &[u8], psc: &[u32], fresh: bool) -> Judged
+pub fn judge(rec: &[u8], psc: &[u32], fresh: bool) -> CheckWithAmounts
     ensures { Gives (with_amounts (record_answer (terms fresh (found psc.now)) rec.now) rec.now) result }
 {
     if rec.len() != 399 {
-        return Judged {
+        return CheckWithAmounts {
             check: RecordCheck {
                 answer: WRONG_LENGTH,
                 consignor: Consignor::Nobody,

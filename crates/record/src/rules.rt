@@ -10,7 +10,7 @@ ghost use Rattle.record.specs.Rules.{when_flags, address_flags, street_flags, co
 use crate::RecordCheck;
 use crate::columns::first_true;
 use crate::readings::{
-    Address, Contact, Goods, Marks, Piece, Street, Tail, When, read_street, read_tail,
+    Address, Contact, Goods, Marks, Piece, Street, Tail, When, read_street, read_tail, read_when,
 };
 use fields::{PostcodeReading, Services, StatusReading, WeightReading};
 use ident::Consignor;
@@ -166,13 +166,13 @@ fn tail_answer(t: Tail) -> Answer
     malformed_answer(&bad, 25)
 }
 
-// Fields 2 to 14. Those that only this rule asks for are read here.
-fn early_answer(rec: &[u8], when: When, address: Address, contact: Contact) -> Answer
-    ensures { result ≡ verdict (rule 210 (places_from 2 (early_flags when address (street_of rec.now) contact)) ∷ []) }
+// Fields 2 to 14. Those that no other rule asks for are read here.
+fn early_answer(rec: &[u8], address: Address, contact: Contact) -> Answer
+    ensures { result ≡ verdict (rule 210 (places_from 2 (early_flags (when_of rec.now) address (street_of rec.now) contact)) ∷ []) }
 {
     let rest = street_answer(read_street(rec)).or_else(contact_answer(contact));
     let rest = address_form_answer(address).or_else(rest);
-    when_answer(when).or_else(rest)
+    when_answer(read_when(rec)).or_else(rest)
 }
 
 // Fields 15 to 26, likewise.
@@ -188,7 +188,6 @@ fn late_answer(rec: &[u8], goods: Goods, marks: Marks, piece: Piece, fresh: bool
 pub(crate) fn form_answer(
     rec: &[u8],
     identifier: Answer,
-    when: When,
     address: Address,
     contact: Contact,
     goods: Goods,
@@ -196,10 +195,10 @@ pub(crate) fn form_answer(
     piece: Piece,
     fresh: bool,
 ) -> Answer
-    requires { (identifier ≡ verdict (identifier_rule rec.now ∷ [])) × (when ≡ when_of rec.now) }
+    requires { identifier ≡ verdict (identifier_rule rec.now ∷ []) }
     ensures { result ≡ verdict (form_of fresh rec.now address contact goods marks piece) }
 {
-    let early = early_answer(rec, when, address, contact);
+    let early = early_answer(rec, address, contact);
     let rest = early.or_else(late_answer(rec, goods, marks, piece, fresh));
     identifier.or_else(rest)
 }
