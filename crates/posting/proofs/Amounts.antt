@@ -2,11 +2,9 @@
 -- Assumes nothing.
 use Prim.Native.Nat.{ℕ, zero, suc, ◌+◌, ◌*◌, ◌-◌, ◌/◌, ◌^◌, ◌≤◌, ◌<◌}
 use mathlib.Core.Path.{◌≡◌, refl, sym, ap, ◌∙◌}
-use mathlib.Core.Bool.{Bool, true, false, cond, not, ◌&&◌}
+use mathlib.Core.Bool.{Bool, true, false, cond, not}
 use mathlib.Core.List.{List}
 use native.Mathlib.Omega.{arith}
-use mir.Syntax.{w64}
-use mir.Val.{Fits}
 use borrow.Author.Tests.{lt-ltb, le-ltb, ltb-true, leb-true, leb-false, not-true, not-false}
 use lib.Dec.{leb}
 use lib.ListN.{length}
@@ -25,7 +23,7 @@ use Rattle.fields.proofs.MoneyLaws.{money_exactly}
 use Rattle.posting.specs.declared.Totals.{Totals}
 use Rattle.posting.specs.declared.TotalsSum.{TotalsSum}
 use Rattle.posting.specs.declared.TotalsSum.TheVariants.{Total, TooLarge}
-use Rattle.posting.specs.Bounds.{Small, Light}
+use Rattle.posting.specs.Bounds.{Small}
 use Rattle.posting.specs.Calls.{fits, sum_of_totals, total_or}
 use Rattle.posting.specs.File.{totals, no_totals, amount_in, amount_of, brought_as, brought, plus_totals, with_record, totals_over, record_at}
 
@@ -105,38 +103,43 @@ module _ (s t : Totals) where
             let p = amounts_fit s.price t.price r e price q in
             rw (← el, not-false l nl, ← ek, not-false k nk, c.0, p.0, c.1, p.1)
 
--- ---- amount_in, amount
-pub amount_none : (m : MoneyReading) → m ≡ Money.Absent → record { 0 = 0 } ≡ (record { 0 = amount_in m } : Hellers)
-amount_none m e = rw e
+-- ---- amount
+module _ (rec f : List ℕ) (n : ℕ) (m : MoneyReading) (ef : f ≡ field_of rec n) (em : m ≡ read_money f) where
+  read_is : m ≡ read_money (field_of rec n)
+  read_is = em ∙ ap read_money ef
 
-pub amount_bad : (m : MoneyReading) → m ≡ Money.Malformed → record { 0 = 0 } ≡ (record { 0 = amount_in m } : Hellers)
-amount_bad m e = rw e
+  pub amount_none : m ≡ Money.Absent → record { 0 = 0 } ≡ amount_of rec n
+  amount_none e = ap (λ (x : MoneyReading). record { 0 = amount_in x }) (sym e ∙ read_is)
 
-pub amount_is : (m : MoneyReading) (h : Hellers) → m ≡ Money.Value h → h ≡ record { 0 = amount_in m }
-amount_is m h e = rw e
+  pub amount_bad : m ≡ Money.Malformed → record { 0 = 0 } ≡ amount_of rec n
+  amount_bad e = ap (λ (x : MoneyReading). record { 0 = amount_in x }) (sym e ∙ read_is)
 
-module _ (rec f : List ℕ) (n : ℕ) (m : MoneyReading) (h : Hellers) (ef : f ≡ field_of rec n) (em : m ≡ read_money f) (eh : h ≡ record { 0 = amount_in m }) where
-  pub amount_read : h ≡ amount_of rec n
-  amount_read = eh ∙ rw (em, ef)
+  pub amount_is : (h : Hellers) → m ≡ Money.Value h → h ≡ amount_of rec n
+  amount_is h e = ap (λ (x : MoneyReading). record { 0 = amount_in x }) (sym e ∙ read_is)
 
-  pub amount_fits : h.0 < 100000000000
-  amount_fits = rw amount_read (amount_small (field_of rec n))
+  pub amount_fits : (h : Hellers) → m ≡ Money.Value h → h.0 < 100000000000
+  amount_fits h e = rw (amount_is h e) (amount_small (field_of rec n))
 
--- ---- brought_as, brought
-module _ (s : StatusReading) (cash price : Hellers) where
-  pub brought_live : s ≡ Status.Live → record { live = 1; cancelled = 0; cash = cash; price = price } ≡ brought_as s cash price
-  brought_live e = rw e
+-- ---- brought
+abbrev Amount : List ℕ → ℕ → Hellers → Type 0
+Amount rec n h = (h ≡ amount_of rec n) × (h.0 < 100000000000)
 
-  pub brought_cancelled : s ≡ Status.Cancelled → totals 0 1 0 0 ≡ brought_as s cash price
-  brought_cancelled e = rw e
+module _ (rec f : List ℕ) (s : StatusReading) (ef : f ≡ field_of rec 19) (es : s ≡ read_status f) where
+  status_is : s ≡ read_status (field_of rec 19)
+  status_is = es ∙ ap read_status ef
 
-  pub brought_none : (t : Totals) → s ≡ Status.Malformed → t ≡ no_totals → t ≡ brought_as s cash price
-  brought_none t e et = rw e et
+  pub brought_live : (cash price : Hellers) → s ≡ Status.Live → Amount rec 16 cash → Amount rec 17 price
+      → record { live = 1; cancelled = 0; cash = cash; price = price } ≡ brought rec
+  unfolding brought
+  brought_live cash price e ec ep = let live : read_status (field_of rec 19) ≡ Status.Live = sym status_is ∙ e in rw (live, ec.0, ep.0)
 
-pub brought_read : (rec f : List ℕ) (s : StatusReading) (cash price : Hellers) (t : Totals) → f ≡ field_of rec 19 → s ≡ read_status f → (cash ≡ amount_of rec 16) × (cash.0 < 100000000000) → (price ≡ amount_of rec 17) × (price.0 < 100000000000)
-    → t ≡ brought_as s cash price → t ≡ brought rec
-unfolding brought
-brought_read rec f s cash price t ef es ec ep et = et ∙ rw (es, ef, ec.0, ep.0)
+  pub brought_cancelled : s ≡ Status.Cancelled → totals 0 1 0 0 ≡ brought rec
+  unfolding brought
+  brought_cancelled e = let struck : read_status (field_of rec 19) ≡ Status.Cancelled = sym status_is ∙ e in rw struck
+
+  pub brought_none : (t : Totals) → s ≡ Status.Malformed → t ≡ no_totals → t ≡ brought rec
+  unfolding brought
+  brought_none t e et = let neither : read_status (field_of rec 19) ≡ Status.Malformed = sym status_is ∙ e in rw neither et
 
 -- ---- totals over n records
 pub record Bounded (n : ℕ) (t : Totals) : Type 0 where
@@ -144,7 +147,13 @@ pub record Bounded (n : ℕ) (t : Totals) : Type 0 where
   pub cash : t.cash.0 ≤ n * 100000000000
   pub price : t.price.0 ≤ n * 100000000000
 
-pub brought_light : (rec : List ℕ) → Light (brought rec)
+-- what one record brings
+pub record Light (t : Totals) : Type 0 where
+  pub counts : t.live + t.cancelled ≤ 1
+  pub cash : t.cash.0 < 100000000000
+  pub price : t.price.0 < 100000000000
+
+brought_light : (rec : List ℕ) → Light (brought rec)
 unfolding brought
 brought_light rec = go (read_status (field_of rec 19))
   where
@@ -169,20 +178,6 @@ small_so_far file n h =
 
 pub totals_small : (file : List ℕ) (n : ℕ) (t : Totals) → length file / 401 ≤ 999 → n < length file / 401 → t ≡ totals_over file n → Small t
 totals_small file n t l h e = rw e (small_so_far file n (omega arith))
-
--- ---- with_one_more
-module _ (t one : Totals) (small : Small t × Light one) where
-  pub live_fits : Fits w64 (t.live + one.live)
-  live_fits = record { fits = omega (arith, small.0.live, small.1.counts) }
-
-  pub cancelled_fits : Fits w64 (t.cancelled + one.cancelled)
-  cancelled_fits = record { fits = omega (arith, small.0.cancelled, small.1.counts) }
-
-  pub cash_fits : Fits w64 (t.cash.0 + one.cash.0)
-  cash_fits = record { fits = omega (arith, small.0.cash, small.1.cash) }
-
-  pub price_fits : Fits w64 (t.price.0 + one.price.0)
-  price_fits = record { fits = omega (arith, small.0.price, small.1.price) }
 
 pub small_sum : (t b r : Totals) (s : TotalsSum) → Small t → Light b → s ≡ sum_of_totals t b → r ≡ total_or s t → r ≡ plus_totals t b
 unfolding sum_of_totals

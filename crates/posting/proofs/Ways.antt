@@ -3,7 +3,7 @@
 use Prim.Native.Nat.{ℕ, zero, suc, ◌+◌, ◌-◌, ◌*◌, ◌/◌, ◌%◌, ◌≤◌, ◌<◌}
 use mathlib.Core.Path.{◌≡◌, refl, sym, ap, ◌∙◌}
 use mathlib.Core.Bool.{Bool, true, false, cond, not, ◌&&◌, ◌||◌}
-use mathlib.Core.List.{List, [], ◌∷◌}
+use mathlib.Core.List.{List}
 use native.Mathlib.Nat.{add-zero, add-sub_cancel_left, sub-zero}
 use native.Mathlib.Numerals.{add-one}
 use native.Mathlib.Omega.{arith}
@@ -13,17 +13,16 @@ use lib.ListN.{length, get_or, take, drop}
 use Rattle.text.specs.declared.Answer.{Answer}
 use Rattle.text.specs.Answers.{answer, accepted, or_else}
 use Rattle.text.specs.Lists.{same_bytes}
-use Rattle.psc.specs.Table.{right_table, wrong_table, Known}
+use Rattle.psc.specs.Table.{right_table, Known}
 use Rattle.psc.specs.Search.{found}
 use Rattle.psc.proofs.SearchLaws.{found_is_holds}
 use Rattle.record.specs.Rules.{in_file, record_answer}
 use Rattle.ident.specs.declared.consignor.Consignor.{Consignor}
 use Rattle.ident.specs.declared.consignor.Consignor.TheVariants.{Nobody}
 use Rattle.ident.specs.Consignor.{another, or_named, first_named}
-use Rattle.record.specs.declared.Judged.{Judged}
-use Rattle.record.specs.Consignors.{with_amounts, strays}
+use Rattle.record.specs.declared.RecordCheck.{RecordCheck}
+use Rattle.record.specs.Consignors.{with_consignor, strays}
 use Rattle.record.proofs.Consignors.{first_suffices, one_none, one_more_lem, first_more}
-use Rattle.fields.specs.declared.amounts.Hellers.{Hellers}
 use Rattle.posting.specs.declared.FileAnswer.{FileAnswer}
 use Rattle.posting.specs.declared.Line.{Line}
 use Rattle.posting.specs.declared.Totals.{Totals}
@@ -31,10 +30,8 @@ use Rattle.index.specs.Index.{key_at, seek, Put}
 use Rattle.index.specs.Laws.{Indexed}
 use Rattle.index.proofs.Keys.{key_of_record}
 use Rattle.index.proofs.Slots.{indexed_more, length_noting}
-use Rattle.posting.specs.Bounds.{Light}
 use Rattle.posting.specs.Slots.{RoomFor, NowNoted, Seen, LineAnswered, ToCheck}
-use Rattle.posting.proofs.Amounts.{brought_light}
-use Rattle.posting.specs.File.{up_to, record_at, records, id_at, line_ends, repeats, line_answer, no_totals, amount_in, brought_as, brought, plus_totals, totals_over, refused, passed, line_or, break_from, records_in, file_answer, table_refused, file_check}
+use Rattle.posting.specs.File.{up_to, record_at, records, id_at, line_ends, repeats, line_answer, no_totals, with_record, totals_over, refused, passed, line_or, break_from, records_in, file_answer, table_refused, file_check}
 
 pub refused_is : (c n p : ℕ) (t : Totals) → t ≡ no_totals → record { code = c; number = n; place = p; totals = t } ≡ refused c n p
 refused_is c n p t e = rw e
@@ -74,39 +71,39 @@ module _ (known : Known) (file : List ℕ) (i : ℕ) where
   unfolding line_answer
   line_open n = rw (not-true (line_ends file i) n)
 
-  module _ (ended : not (eqb (get_or file (i * 401 + 399) 0) 13 && eqb (get_or file (i * 401 + 400) 0) 10) ≡ false) (j : Judged)
-      (ej : j ≡ with_amounts (record_answer (in_file known) (take (i * 401 + 399 - i * 401) (drop (i * 401) file))) (take (i * 401 + 399 - i * 401) (drop (i * 401) file))) where
-    judged_here : j ≡ with_amounts (record_answer (in_file known) (record_at file i)) (record_at file i)
-    judged_here = ej ∙ rw (from_start file i 399)
+  module _ (ended : not (eqb (get_or file (i * 401 + 399) 0) 13 && eqb (get_or file (i * 401 + 400) 0) 10) ≡ false) (k : RecordCheck)
+      (ek : k ≡ with_consignor (record_answer (in_file known) (take (i * 401 + 399 - i * 401) (drop (i * 401) file))) (take (i * 401 + 399 - i * 401) (drop (i * 401) file))) where
+    checked_here : k ≡ with_consignor (record_answer (in_file known) (record_at file i)) (record_at file i)
+    checked_here = ek ∙ rw (from_start file i 399)
 
-    here : record_answer (in_file known) (record_at file i) ≡ j.check.answer
-    here = sym (ap (λ (x : Judged). x.checj.check.answer) judged_here)
+    here : record_answer (in_file known) (record_at file i) ≡ k.answer
+    here = sym (ap (λ (x : RecordCheck). x.answer) checked_here)
 
-    pub line_breaks : (j.check.answer.code ≡ 0 → ⊥) → j.check.answer ≡ line_answer known file i
+    pub line_breaks : (k.answer.code ≡ 0 → ⊥) → k.answer ≡ line_answer known file i
     unfolding line_answer or_else
-    line_breaks n = rw (not-false (line_ends file i) ended, here, ne_eqb j.check.answer.code 0 n)
+    line_breaks n = rw (not-false (line_ends file i) ended, here, ne_eqb k.answer.code 0 n)
 
-    module _ (b : Bool) (z : j.check.answer.code ≡ 0) (e : b ≡ repeats file i i) where
+    module _ (b : Bool) (z : k.answer.code ≡ 0) (e : b ≡ repeats file i i) where
       pub line_repeats : b ≡ true → answer 2 1 ≡ line_answer known file i
       unfolding line_answer or_else
-      line_repeats t = rw (not-false (line_ends file i) ended, here, eq-eqb j.check.answer.code 0 z, ← e, t)
+      line_repeats t = rw (not-false (line_ends file i) ended, here, eq-eqb k.answer.code 0 z, ← e, t)
 
       -- the first consignor named suffices
-      module _ (t : b ≡ false) (seen : Consignor) (sees : Seen file i seen) (w : Bool) (ew : w ≡ another seen j.check.consignor) where
+      module _ (t : b ≡ false) (seen : Consignor) (sees : Seen file i seen) (w : Bool) (ew : w ≡ another seen k.consignor) where
         strays_here : strays (records file i) (record_at file i) ≡ w
         strays_here =
             first_suffices (records file i) (record_at file i) sees.one
-            ∙ rw (← sees.first, ← ap (λ (x : Judged). x.checj.check.consignor) judged_here) (sym ew)
+            ∙ rw (← sees.first, ← ap (λ (x : RecordCheck). x.consignor) checked_here) (sym ew)
 
         pub line_strays : w ≡ true → answer 241 1 ≡ line_answer known file i
         unfolding line_answer or_else
-        line_strays q = rw (not-false (line_ends file i) ended, here, eq-eqb j.check.answer.code 0 z, ← e, t, strays_here, q)
+        line_strays q = rw (not-false (line_ends file i) ended, here, eq-eqb k.answer.code 0 z, ← e, t, strays_here, q)
 
         pub line_passes : w ≡ false → accepted ≡ line_answer known file i
         unfolding line_answer or_else
-        line_passes q = rw (not-false (line_ends file i) ended, here, eq-eqb j.check.answer.code 0 z, ← e, t, strays_here, q)
+        line_passes q = rw (not-false (line_ends file i) ended, here, eq-eqb k.answer.code 0 z, ← e, t, strays_here, q)
 
-        pub line_seen : w ≡ false → (n : Consignor) → n ≡ or_named seen j.check.consignor → Seen file (i + 1) n
+        pub line_seen : w ≡ false → (n : Consignor) → n ≡ or_named seen k.consignor → Seen file (i + 1) n
         unfolding up_to
         line_seen q n en =
             rw (add-one i)
@@ -114,20 +111,9 @@ module _ (known : Known) (file : List ℕ) (i : ℕ) where
               one = one_more_lem (records file i) (record_at file i) sees.one (strays_here ∙ q);
               first =
                   en
-                  ∙ rw (sees.first, ap (λ (x : Judged). x.checj.check.consignor) judged_here)
+                  ∙ rw (sees.first, ap (λ (x : RecordCheck). x.consignor) checked_here)
                   (sym (first_more (records file i) (record_at file i)));
             }
-
-    pub line_brings : (b : Totals) (cash price : Hellers) → cash ≡ record { 0 = amount_in j.cash } → price ≡ record { 0 = amount_in j.price } → b ≡ brought_as j.status cash price → b ≡ brought (record_at file i)
-    unfolding brought
-    line_brings b cash price ec ep eb = eb ∙ rw (ec, ep, judged_here)
-
--- a refused line: where it is accepted, nothing is asked
-pub line_refused : (known : Known) (file : List ℕ) (i : ℕ) (table after : List ℕ) (a : Answer) (seen : Consignor) (r : Line) → (r.answer ≡ a) × (r.seen ≡ seen) → (a.code ≡ 0 → ⊥) → a ≡ line_answer known file i
-    → LineAnswered known file i table after r
-line_refused known file i table after a seen r er n ea =
-    let never : r.answer.code ≡ 0 → ⊥ = λ z. n (rw er.0 at z) in
-    record { answers = er.0 ∙ ea; notes = λ z. absurd (never z); sees = λ z. absurd (never z); brings = λ z. absurd (never z) }
 
 -- ---- check
 pub file_odd : (known : Known) (file : List ℕ) (r : FileAnswer) → (length file % 401 ≡ 0 → ⊥) → r ≡ refused 211 0 0 → r ≡ file_answer known file
@@ -205,12 +191,12 @@ so_far_on known file i table₀ table after r unbroken slots answered z h =
       sees = answered.sees z;
     }
 
-pub totals_on : (file : List ℕ) (i : ℕ) (t one t' : Totals) → t ≡ totals_over file i → one ≡ brought (record_at file i) → t' ≡ plus_totals t one → t' ≡ totals_over file (i + 1)
-unfolding totals_over
-totals_on file i t one t' e eo e' = e' ∙ rw (e, eo, add-one i)
+pub record_with : (file : List ℕ) (i : ℕ) (t r : Totals) → r ≡ with_record t (take (i * 401 + 399 - i * 401) (drop (i * 401) file)) → r ≡ with_record t (record_at file i)
+record_with file i t r e = e ∙ rw (from_start file i 399)
 
-pub line_light : (known : Known) (file : List ℕ) (i : ℕ) (table after : List ℕ) (r : Line) → LineAnswered known file i table after r → r.answer.code ≡ 0 → Light r.brought
-line_light known file i table after r answered z = rw (answered.brings z) (brought_light (record_at file i))
+pub totals_on : (file : List ℕ) (i : ℕ) (t t' : Totals) → t ≡ totals_over file i → t' ≡ with_record t (record_at file i) → t' ≡ totals_over file (i + 1)
+unfolding totals_over
+totals_on file i t t' e e' = e' ∙ rw (e, add-one i)
 
 pub totals_start : (file : List ℕ) (t : Totals) → t ≡ no_totals → t ≡ totals_over file 0
 unfolding totals_over

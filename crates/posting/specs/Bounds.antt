@@ -1,6 +1,6 @@
 -- Totals that are far from the end of 64 bits, as those of at most 999 records are. No promise of a public call speaks of it.
 -- Assumes nothing.
-use Rattle.std.specs.Prelude.{◌+◌, ◌≤◌, ◌<◌}
+use Rattle.std.specs.Prelude.{◌<◌}
 use Rattle.posting.specs.declared.Totals.{Totals}
 
 pub record Small (t : Totals) : Type 0 where
@@ -8,9 +8,3 @@ pub record Small (t : Totals) : Type 0 where
   pub cancelled : t.cancelled < 1000
   pub cash : t.cash.0 < 100000000000000
   pub price : t.price.0 < 100000000000000
-
--- what one record brings
-pub record Light (t : Totals) : Type 0 where
-  pub counts : t.live + t.cancelled ≤ 1
-  pub cash : t.cash.0 < 100000000000
-  pub price : t.price.0 < 100000000000

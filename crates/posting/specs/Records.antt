@@ -1,6 +1,6 @@
 -- A file as a list of records: its lines joined give it, each line is a record of 399 bytes and two bytes; and what a good file is.
 -- Assumes nothing.
-use Rattle.std.specs.Prelude.{ℕ, zero, suc, ◌+◌, ◌*◌, ◌≤◌, ◌<◌, ◌≡◌, true, false, List, [], ◌∷◌, ◌++◌, map, length, get_or, take, drop}
+use Rattle.std.specs.Prelude.{ℕ, ◌+◌, ◌*◌, ◌≤◌, ◌<◌, ◌≡◌, true, List, [], ◌∷◌, ◌++◌, map, length, get_or, take, drop}
 use Rattle.text.specs.Lists.{joined}
 use Rattle.psc.specs.Table.{Known}
 use Rattle.layout.specs.Layout.{field_of}

@@ -7,7 +7,7 @@ use Rattle.psc.specs.Table.{Known}
 use Rattle.index.specs.Laws.{Indexed}
 use Rattle.record.specs.Consignors.{OneConsignor, first_of}
 use Rattle.posting.specs.declared.Line.{Line}
-use Rattle.posting.specs.File.{record_at, records, line_answer, brought}
+use Rattle.posting.specs.File.{records, line_answer}
 
 -- the records before i are noted, and there is room for record i
 pub record RoomFor (file : List ℕ) (i : ℕ) (table : List ℕ) : Type 0 where
@@ -24,12 +24,11 @@ pub record Seen (file : List ℕ) (i : ℕ) (seen : Consignor) : Type 0 where
   pub one : OneConsignor (records file i)
   pub first : seen ≡ first_of (records file i)
 
--- the answer to record i, which is noted, its consignor seen, and what it brings known, where it is accepted
+-- the answer to record i, which is noted, and its consignor seen, where it is accepted
 pub record LineAnswered (known : Known) (file : List ℕ) (i : ℕ) (table after : List ℕ) (r : Line) : Type 0 where
   pub answers : r.answer ≡ line_answer known file i
   pub notes : r.answer.code ≡ 0 → NowNoted file i table after
   pub sees : r.answer.code ≡ 0 → Seen file (i + 1) r.seen
-  pub brings : r.answer.code ≡ 0 → r.brought ≡ brought (record_at file i)
 
 -- whole records, no more than 999, and a table that has none of them yet, and room for all
 pub record ToCheck (file table : List ℕ) : Type 0 where

@@ -6,9 +6,9 @@ ghost use Rattle.psc.specs.Search.{found};
 ghost use Rattle.text.specs.Promises.{Gives, GivesWithin};
 ghost use Rattle.text.specs.Lists.{overlay};
 ghost use Rattle.text.specs.Numbers.{decimal_places, decimal};
-ghost use Rattle.posting.specs.File.{repeats, no_totals, amount_in, amount_of, brought_as, brought, plus_totals, refused, file_answer, table_refused, file_check};
+ghost use Rattle.posting.specs.File.{record_at, repeats, no_totals, amount_of, brought, with_record, refused, file_answer, table_refused, file_check};
 ghost use Rattle.posting.specs.Calls.{fits, sum_of_totals, total_or};
-ghost use Rattle.posting.specs.Bounds.{Small, Light};
+ghost use Rattle.posting.specs.Bounds.{Small};
 ghost use Rattle.posting.specs.Slots.{RoomFor, NowNoted, Seen, LineAnswered, ToCheck};
 ghost use Rattle.posting.specs.Report.{numbers_of, behind, line, Report, input_answer};
 
@@ -96,23 +96,11 @@ pub const OTHER_CONSIGNOR: Answer = Answer {
     place: 1,
 };
 
-// What a record breaks, the first consignor that is named up to it, and what it brings to the totals.
+// What a record breaks, and the first consignor that is named up to it.
 #[derive(Clone, Copy)]
 pub struct Line {
     pub answer: Answer,
     pub seen: Consignor,
-    pub brought: Totals,
-}
-
-// A record that is refused brings nothing.
-fn refused_line(answer: Answer, seen: Consignor) -> Line
-    ensures { (result.answer ≡ answer) × (result.seen ≡ seen) }
-{
-    Line {
-        answer,
-        seen,
-        brought: no_totals(),
-    }
 }
 
 // What record i breaks, its line end first. The consignor seen is the first that is named before it.
@@ -124,28 +112,32 @@ fn line_answer(file: &[u8], i: usize, psc: &[u32], table: &mut [u16], seen: Cons
     let e = at + 399;
     let ended = (file[e] == 13) & (file[at + 400] == 10);
     if !ended {
-        return refused_line(WRONG_END, seen);
+        return Line {
+            answer: WRONG_END,
+            seen,
+        };
     }
-    let judged = record::judge(&file[at..e], psc, false);
-    let check = judged.check;
+    let check = record::answer(&file[at..e], psc, false);
     let answer = check.answer;
     let consignor = check.consignor;
     if answer.code != 0 {
-        return refused_line(answer, seen);
+        return Line { answer, seen };
     }
     if repeated(file, i, table) {
-        return refused_line(TWICE, seen);
+        return Line {
+            answer: TWICE,
+            seen,
+        };
     }
     if seen.another(consignor) {
-        return refused_line(OTHER_CONSIGNOR, seen);
+        return Line {
+            answer: OTHER_CONSIGNOR,
+            seen,
+        };
     }
-    let status = judged.status;
-    let cash = judged.cash;
-    let price = judged.price;
     Line {
         answer: ACCEPTED,
         seen: seen.or_named(consignor),
-        brought: brought_as(status, amount_in(cash), amount_in(price)),
     }
 }
 
@@ -197,34 +189,27 @@ impl TotalsSum {
     }
 }
 
-// What was read of an amount; 0 where there is none.
-fn amount_in(m: MoneyReading) -> Hellers
-    ensures { result ≡ record { 0 = amount_in m } }
+// The amount in field n of a record; 0 where there is none.
+pub fn amount(rec: &[u8], n: usize) -> Hellers
+    ensures { GivesWithin (amount_of rec.now n) (λ h. h.0 < 100000000000) result }
 {
-    match m {
+    match fields::read_money(layout::field(rec, n)) {
         MoneyReading::Absent => Hellers(0),
         MoneyReading::Value(h) => h,
         MoneyReading::Malformed => Hellers(0),
     }
 }
 
-// The amount in field n of a record; 0 where there is none.
-pub fn amount(rec: &[u8], n: usize) -> Hellers
-    ensures { GivesWithin (amount_of rec.now n) (λ h. h.0 < 100000000000) result }
+// What a record brings to the totals, live or cancelled. What is neither brings nothing.
+pub fn brought(rec: &[u8]) -> Totals
+    ensures { Gives (brought rec.now) result }
 {
-    amount_in(fields::read_money(layout::field(rec, n)))
-}
-
-// A live record brings its amounts, a cancelled one is only counted. What is neither brings nothing.
-fn brought_as(status: StatusReading, cash: Hellers, price: Hellers) -> Totals
-    ensures { result ≡ brought_as status cash price }
-{
-    match status {
+    match fields::read_status(layout::field(rec, 19)) {
         StatusReading::Live => Totals {
             live: 1,
             cancelled: 0,
-            cash,
-            price,
+            cash: amount(rec, 16),
+            price: amount(rec, 17),
         },
         StatusReading::Cancelled => Totals {
             live: 0,
@@ -236,29 +221,21 @@ fn brought_as(status: StatusReading, cash: Hellers, price: Hellers) -> Totals
     }
 }
 
-// What a record brings to the totals.
-pub fn brought(rec: &[u8]) -> Totals
-    ensures { Gives (brought rec.now) result }
+// The totals with a record more. Small ones never grow too large by one.
+fn with_record(t: Totals, rec: &[u8]) -> Totals
+    requires { Small t }
+    ensures { result ≡ with_record t rec.now }
 {
-    let status = fields::read_status(layout::field(rec, 19));
-    brought_as(status, amount(rec, 16), amount(rec, 17))
+    t.plus(brought(rec)).total_or(t)
 }
 
-// Small totals with what one record brings, which never makes them too large.
-fn with_one_more(t: Totals, one: Totals) -> Totals
-    requires { Small t × Light one }
-    ensures { result ≡ plus_totals t one }
+// The totals with record i of a file more.
+fn with_record_at(t: Totals, file: &[u8], i: usize) -> Totals
+    requires { Small t × (i * 401 + 401 ≤ length file.now) }
+    ensures { result ≡ with_record t (record_at file.now i) }
 {
-    let cash = t.cash;
-    let price = t.price;
-    let more_cash = one.cash;
-    let more_price = one.price;
-    Totals {
-        live: t.live + one.live,
-        cancelled: t.cancelled + one.cancelled,
-        cash: Hellers(cash.0 + more_cash.0),
-        price: Hellers(price.0 + more_price.0),
-    }
+    let start = i * 401;
+    with_record(t, &file[start..start + 399])
 }
 
 // The answer to whole records. The lent table has none of them yet, and more slots than there are records.
@@ -277,7 +254,7 @@ fn checked(file: &[u8], psc: &[u32], table: &mut [u16]) -> FileAnswer
             return refused(answer.code, i as u32 + 1, answer.place);
         }
         seen = line.seen;
-        totals = with_one_more(totals, line.brought);
+        totals = with_record_at(totals, file, i);
         i += 1;
     }
     FileAnswer {
