@@ -1,7 +1,7 @@
 -- The table of refusals: each code of it is given exactly under the condition that the paper names, earlier codes not met, and at its place; in any batch
 -- and under any verdict that is fit. Those of an action are said of the call of any action, be it an addition, an amendment or a cancellation.
 -- Assumes nothing.
-use Prim.Native.Nat.{ℕ, ◌-◌, ◌≤◌}
+use Prim.Native.Nat.{ℕ, ◌≤◌}
 use mathlib.Core.Path.{◌≡◌, refl, sym, ap, ◌∙◌, subst}
 use mathlib.Core.Bool.{Bool, true, false, cond}
 use mathlib.Core.List.{List, [], ◌∷◌}

@@ -5,13 +5,12 @@ use Prim.Native.Nat.{ℕ}
 use mathlib.Core.Path.{◌≡◌, refl, sym, ap, ◌∙◌, subst}
 use mathlib.Core.Bool.{Bool, true, false}
 use mathlib.Core.List.{List, [], ◌∷◌, map}
-use borrow.Author.Tests.{ne_eqb}
-use Rattle.psc.specs.Table.{right_table, wrong_table, Known, holds}
+use Rattle.psc.specs.Table.{right_table, Known, holds}
 use Rattle.text.specs.declared.Answer.{Answer}
 use Rattle.batch.specs.Rules.{Verdict, posted, Fit, in_turn, in_turn_behind}
-use Rattle.batch.specs.Batch.{Batch, batch_of, Call, Open, Add, Amend, Cancel, Undo, right_lengths, State, state, made, rules, file_length, journal_length, answer_to, unchanged, after, CalledBy, answer_under, after_under, Called, takes_table}
+use Rattle.batch.specs.Batch.{Batch, batch_of, Call, Open, Add, Amend, Cancel, Undo, right_lengths, State, state, made, rules, file_length, journal_length, answer_to, unchanged, after, CalledBy, answer_under, after_under, Called}
 use Rattle.batch.specs.History.{GoodBuffers, standing_by_rule, standing_behind, answers_behind}
-use Rattle.batch.specs.Demand.{given_to, RunOfCalls, Demand3By, ChangesNothing, refused_by_table, answers_under, standing_under, Demand3Under}
+use Rattle.batch.specs.Demand.{given_to, RunOfCalls, Demand3By, ChangesNothing, refused_by_table, Demand3Under}
 use Rattle.batch.proofs.CallsMet.{lengths_exactly, open_answers, open_after, opens, opened_is}
 use Rattle.batch.proofs.History.{answer_here, after_here, turns_here}
 use Rattle.batch.proofs.Made.{Fits, none_fits, made_file_long, made_journal_long}

@@ -5,7 +5,6 @@ use Prim.Native.Nat.{ℕ}
 use mathlib.Core.Path.{◌≡◌, refl, sym, ap, ◌∙◌, subst}
 use mathlib.Core.Bool.{Bool, true, false, cond, not, ◌&&◌}
 use mathlib.Core.List.{List}
-use native.Mathlib.Omega.{arith}
 use borrow.Author.Tests.{ne_eqb, not-true}
 use Rattle.text.specs.declared.Answer.{Answer}
 use Rattle.text.proofs.Booleans.{clash, both}
@@ -20,7 +19,7 @@ use Rattle.batch.specs.declared.Counts.{Counts}
 use Rattle.batch.specs.Actions.{Action, Addition, Amendment, Cancellation}
 use Rattle.batch.specs.Rules.{posted, action_rule, entry_rule}
 use Rattle.batch.specs.Batch.{Batch, Call, Open, Add, Amend, Cancel, Undo, right_lengths, file_length, journal_length, answer_to, unchanged, after, CalledBy, takes_table, meets_wrong_table, answer_under, after_under, Called}
-use Rattle.batch.specs.History.{GoodBuffers, WrongTable, body_answer}
+use Rattle.batch.specs.History.{WrongTable, body_answer}
 use Rattle.batch.proofs.Verdicts.{posted_fit}
 use Rattle.batch.proofs.CallsMet.{lengths_exactly}
 use Rattle.batch.proofs.BatchCodes.{never_238}

@@ -1,7 +1,7 @@
 -- Actions, the table of their kinds, and the entries that they print into the journal.
 -- Assumes nothing.
 use Rattle.std.specs.Prelude.{ℕ, zero, suc, ◌+◌, ◌/◌, ◌%◌, Bool, true, cond, ◌&&◌, ◌≡◌, refl, ◌↔◌, List, [], ◌∷◌, ◌++◌, map, length, take, drop, eqb, leb}
-use Rattle.std.proofs.Math.Option.{Option, none, some, Option·elim}
+use Rattle.std.proofs.Math.Option.{Option, none, some, Option-elim}
 use Rattle.text.specs.Lists.{same_bytes, joined}
 
 -- ---- actions, each with the record or the identifier that it carries
@@ -100,7 +100,7 @@ behind_first a (some xs) = some (a ∷ xs)
 unfoldable pub entries_in : ℕ → List ℕ → Option (List Action)
 entries_in zero s = cond (eqb (length s) 0) (some []) none
 entries_in (suc n) s =
-    cond (eqb (length s) 0) (some []) (Option·elim (first_entry kinds s) none (λ e. behind_first e.action (entries_in n e.behind)))
+    cond (eqb (length s) 0) (some []) (Option-elim (first_entry kinds s) none (λ e. behind_first e.action (entries_in n e.behind)))
 
 -- each entry has a byte at least, so there are not more than bytes
 abbrev pub actions_in : List ℕ → Option (List Action)

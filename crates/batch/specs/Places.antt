@@ -1,7 +1,7 @@
 -- "The open batch": what an addition, an amendment and a cancellation meet, and what they make of the file and the totals.
 -- A file buffer and how many records it holds stand for the records, and so does the first consignor that they name; places are counted from 0.
 -- Assumes nothing.
-use Rattle.std.specs.Prelude.{ℕ, zero, suc, ◌+◌, ◌-◌, ◌*◌, Bool, true, cond, not, List, length, get_or, set, eqb, leb}
+use Rattle.std.specs.Prelude.{ℕ, zero, suc, ◌+◌, ◌-◌, ◌*◌, Bool, cond, not, List, length, get_or, set, eqb, leb}
 use Rattle.text.specs.declared.Answer.{Answer}
 use Rattle.text.specs.Answers.{answer, accepted, or_else}
 use Rattle.text.specs.Lists.{same_bytes, overlay}

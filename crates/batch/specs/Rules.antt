@@ -1,7 +1,7 @@
 -- "The open batch", its table of refusals: the rules over the records that actions make. No buffer, count or replay is in them.
 -- The verdict on a record is a parameter: what the record's own rules say, the batch passes on.
 -- Assumes nothing.
-use Rattle.std.specs.Prelude.{ℕ, ◌-◌, ◌/◌, Bool, true, false, cond, ◌&&◌, ◌≡◌, List, [], ◌∷◌, ◌++◌, length, eqb, ltb, leb}
+use Rattle.std.specs.Prelude.{ℕ, ◌-◌, ◌/◌, Bool, true, cond, ◌&&◌, ◌≡◌, List, [], ◌∷◌, ◌++◌, length, eqb, ltb, leb}
 use Rattle.text.specs.declared.Answer.{Answer}
 use Rattle.text.specs.Answers.{answer, accepted, or_else, wrong_length}
 use Rattle.psc.specs.Table.{Known}

@@ -1,6 +1,6 @@
 -- What the private functions of the test of the state ask and promise. No promise of a public call speaks of marks or of an index.
 -- Assumes nothing.
-use Rattle.std.specs.Prelude.{ℕ, zero, suc, ◌+◌, ◌-◌, ◌*◌, ◌/◌, ◌%◌, ◌≤◌, ◌<◌, Bool, true, false, cond, ◌≡◌, List, [], length, get_or, set, take, drop, eqb}
+use Rattle.std.specs.Prelude.{ℕ, zero, suc, ◌+◌, ◌*◌, ◌/◌, ◌%◌, ◌≤◌, ◌<◌, Bool, true, false, cond, ◌≡◌, List, [], length, get_or, set, take, drop, eqb}
 use Rattle.psc.specs.Table.{Known}
 use Rattle.ident.specs.declared.consignor.Consignor.{Consignor}
 use Rattle.ident.specs.Identifier.{right_id}

@@ -1,0 +1,13 @@
+-- `batch::totals_over`.
+use native.Mathlib.Omega.{arith}
+use Rattle.batch.proofs.StateWays.{totals_start, totals_on, totals_end}
+use Rattle.batch.proofs.totals_over.Goals as goal
+
+pub loop-i-init : goal.loop-i-init
+loop-i-init c = (omega arith, search totals_start)
+
+pub loop-i-preserved : goal.loop-i-preserved
+loop-i-preserved c = (omega arith, search totals_on)
+
+pub returns : goal.returns
+returns c = search totals_end

@@ -1,0 +1,6 @@
+-- `batch::undoing::clear_line`.
+use Rattle.batch.proofs.UndoWays.{line_cleared}
+use Rattle.batch.proofs.undoing.clear_line.Goals as goal
+
+pub returns : goal.returns
+returns c = search line_cleared
