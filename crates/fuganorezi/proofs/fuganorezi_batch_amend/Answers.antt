@@ -1,0 +1,6 @@
+-- `fuganorezi::fuganorezi_batch_amend` meets its contract: what it answers is what the batch answered, in C's structs.
+use Rattle.fuganorezi.proofs.Ways.{told_from}
+use Rattle.fuganorezi.proofs.fuganorezi_batch_amend.Goals as goal
+
+pub returns : goal.returns
+returns c = search told_from
