@@ -3,18 +3,13 @@
 #![tactic(auto)]
 
 ghost use Rattle.std.specs.Prelude.{◌≤◌, length};
-ghost use Rattle.io.specs.Counts.{IsPrefixLen};
+ghost use Rattle.std.specs.Io.{ReadsAtMost};
 ghost use Rattle.posting.specs.Report.{input_answer, under_text, longest_line, WholeLine};
 
-use libc::{ENOENT, STDIN_FILENO, STDOUT_FILENO};
 use posting::Reported;
-
-// What was read of psc.txt: whether all of it was, and how many bytes are in the buffer.
-#[derive(Clone, Copy)]
-struct Text {
-    whole: bool,
-    length: usize,
-}
+use std::io::ErrorKind;
+use std::rt::Files;
+use std::{fs, io};
 
 // The line for what was read. There is room for every table and every line, so it is always the whole one.
 fn put_line(text: &[u8], input: &[u8], table: &mut [u32], line: &mut [u8]) -> Reported
@@ -30,55 +25,55 @@ fn put_line(text: &[u8], input: &[u8], table: &mut [u32], line: &mut [u8]) -> Re
     posting::report_input(input, &table[..n], line)
 }
 
-fn print_report(text: &[u8], input: &[u8]) {
+fn print_report<R: Print>(rt: &R, text: &[u8], input: &[u8]) -> io::Result<()> {
     let mut table = [0u32; psc::MOST_ENTRIES];
     let mut line = [0u8; posting::LONGEST_LINE];
     let reported = put_line(text, input, &mut table, &mut line);
     let n = reported.length;
-    if !io::write_all(STDOUT_FILENO, &line[..n]) {
-        os::fail(b"kcheck: standard output");
-    }
+    rt.write_all(&line[..n])
 }
 
 // Where there is no psc.txt, the table is empty, and so is its text.
-fn read_text(text: &mut [u8]) -> Text
-    ensures { IsPrefixLen result.length text.new }
+fn read_text<R: Files>(rt: &R, text: &mut [u8]) -> io::Result<usize>
+    ensures { ReadsAtMost result text.new }
 {
-    let fd = os::open_read(b"psc.txt");
-    if fd < 0 {
-        return Text {
-            whole: os::errno() == ENOENT,
-            length: 0,
-        };
+    match fs::open(rt, "psc.txt") {
+        Ok(mut file) => streams::read_full(&mut file, text),
+        Err(e) => {
+            if e.kind() == ErrorKind::NotFound {
+                Ok(0)
+            } else {
+                Err(e)
+            }
+        },
     }
-    let length = io::read_full(fd, text);
-    Text {
-        whole: os::errno() == 0,
-        length,
-    }
+}
+
+// Says on standard error what could not be read or written, and why. Where that cannot be said, nothing is.
+fn tell<R: Eprint>(rt: &R, what: &str, error: io::Error) {
+    let _ = eprintln!(rt; "kcheck: {what}: {error}");
 }
 
 // Reads the table only now: a call that fails for psc.txt must not look as if standard input were not read.
-fn report_on(input: &[u8]) {
+fn report_on<R: Files + Print + Eprint>(rt: &R, input: &[u8]) {
     // One byte more than the text of a table has, so that the program sees a longer one.
     let mut text = [0u8; psc::MOST_TEXT + 1];
-    let read = read_text(&mut text);
-    if !read.whole {
-        os::fail(b"kcheck: psc.txt");
-        return;
+    match read_text(rt, &mut text) {
+        Err(e) => tell(rt, "psc.txt", e),
+        Ok(n) => {
+            if let Err(e) = print_report(rt, &text[..n], input) {
+                tell(rt, "standard output", e);
+            }
+        },
     }
-    let n = read.length;
-    print_report(&text[..n], input);
 }
 
-fn main() {
+fn main(rt: HostRuntime) {
     // One byte more than the program takes, so that it sees a longer input.
     let mut input = [0u8; 64161];
-    let n = io::read_full(STDIN_FILENO, &mut input);
-    // `errno` is 0 until a call fails. An input that was not read to its end gets no line.
-    if os::errno() != 0 {
-        os::fail(b"kcheck: standard input");
-        return;
+    // An input that was not read to its end gets no line.
+    match streams::read_full(&mut rt.stdin(), &mut input) {
+        Err(e) => tell(&rt, "standard input", e),
+        Ok(n) => report_on(&rt, &input[..n]),
     }
-    report_on(&input[..n]);
 }
