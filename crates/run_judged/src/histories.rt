@@ -8,6 +8,7 @@ use crate::{items, tables};
 use batch::{Counts, Outcome};
 use fields::Hellers;
 use posting::Totals;
+use std::io::Read;
 use text::ACCEPTED;
 
 // The next call of a history: which it is, how long its item is, and how long both are together; 0 where there is none.
@@ -99,24 +100,27 @@ fn serve(
     }
 }
 
-fn print_outcome(outcome: Outcome, file: &[u8], journal: &[u8]) -> bool {
+fn print_outcome<R: Print>(rt: &R, outcome: Outcome, file: &[u8], journal: &[u8]) -> bool {
     let answer = outcome.answer;
     let c = outcome.counts;
     let t = c.totals;
     let cash = t.cash;
     let price = t.price;
-    print_line(&[
-        answer.code as u64,
-        answer.place as u64,
-        t.live,
-        t.cancelled,
-        cash.0,
-        price.0,
-        c.held as u64,
-        c.used as u64,
-        adler(file),
-        adler(journal),
-    ])
+    print_line(
+        rt,
+        &[
+            answer.code as u64,
+            answer.place as u64,
+            t.live,
+            t.cancelled,
+            cash.0,
+            price.0,
+            c.held as u64,
+            c.used as u64,
+            adler(file),
+            adler(journal),
+        ],
+    )
 }
 
 // How long a call with such an item is; 0 where a history of so many bytes has none such.
@@ -131,11 +135,11 @@ fn call_length(op: u8, size: usize, left: usize) -> usize
 }
 
 // Reads what announces a call, in a history that has so many bytes left.
-fn next_call(fd: i32, left: usize) -> Head
+fn next_call<F: Read>(input: &mut F, left: usize) -> Head
     ensures { result.length ≤ left }
 {
     let mut bytes = [0u8; 5];
-    if io::read_full(fd, &mut bytes) < 5 {
+    if items::read_full(input, &mut bytes) < 5 {
         return Head {
             op: 0,
             size: 0,
@@ -163,10 +167,11 @@ fn turn_of(printed: bool, head: Head, counts: Counts, entries: usize) -> Turn
 }
 
 // Call 8: the table in its item holds from now on. What stands behind that there is passed over.
-fn set_table(
-    fd: i32,
+fn set_table<R: Print + Eprint, F: Read>(
+    rt: &R,
+    input: &mut F,
     head: Head,
-    path: &[u8],
+    path: &str,
     file: &[u8],
     journal: &[u8],
     table: &mut [u32],
@@ -174,10 +179,10 @@ fn set_table(
 ) -> Turn
     ensures { (result.taken ≤ head.length) × (result.entries ≤ length table.new) }
 {
-    let front = tables::take(fd, head.size, path, table);
-    let read = front.whole && (items::skip(fd, front.left) || broken(path));
+    let front = tables::take(rt, input, head.size, path, table);
+    let read = front.whole && (items::skip(input, front.left) || broken(rt, path));
     turn_of(
-        read && print_outcome(spoiled(c), file, journal),
+        read && print_outcome(rt, spoiled(c), file, journal),
         head,
         c,
         front.entries,
@@ -185,7 +190,8 @@ fn set_table(
 }
 
 // Serves a call whose item is in the buffer, and prints its line.
-fn answer_taken(
+fn answer_taken<R: Print>(
+    rt: &R,
     head: Head,
     file: &mut [u8],
     journal: &mut [u8],
@@ -196,16 +202,17 @@ fn answer_taken(
     ensures { (result.taken ≤ head.length) × (result.entries ≡ length psc.now) }
 {
     let outcome = serve(head.op, file, journal, c, item, psc);
-    let printed = print_outcome(outcome, file, journal);
+    let printed = print_outcome(rt, outcome, file, journal);
     let counts = outcome.counts;
     turn_of(printed, head, counts, psc.len())
 }
 
 // Reads the item of any other call, and answers it by the table that holds.
-fn answer_other(
-    fd: i32,
+fn answer_other<R: Print + Eprint, F: Read>(
+    rt: &R,
+    input: &mut F,
     head: Head,
-    path: &[u8],
+    path: &str,
     file: &mut [u8],
     journal: &mut [u8],
     c: Counts,
@@ -215,18 +222,19 @@ fn answer_other(
 {
     // One byte more than a record has: what is longer is none, and no identifier either, whatever follows.
     let mut item = [0u8; 400];
-    let taken = items::take_item(fd, head.size, path, &mut item);
+    let taken = items::take_item(rt, input, head.size, path, &mut item);
     let n = taken.put;
     if !taken.whole {
         return turn_of(false, head, c, psc.len());
     }
-    answer_taken(head, file, journal, c, &item[..n], psc)
+    answer_taken(rt, head, file, journal, c, &item[..n], psc)
 }
 
-fn answer_call(
-    fd: i32,
+fn answer_call<R: Print + Eprint, F: Read>(
+    rt: &R,
+    input: &mut F,
     left: usize,
-    path: &[u8],
+    path: &str,
     file: &mut [u8],
     journal: &mut [u8],
     table: &mut [u32],
@@ -236,14 +244,14 @@ fn answer_call(
     requires { entries ≤ length table.old }
     ensures { (result.taken ≤ left) × (result.entries ≤ length table.new) }
 {
-    let head = next_call(fd, left);
+    let head = next_call(input, left);
     if head.length == 0 {
-        return turn_of(broken(path), head, c, entries);
+        return turn_of(broken(rt, path), head, c, entries);
     }
     if head.op == 8 {
-        return set_table(fd, head, path, file, journal, table, c);
+        return set_table(rt, input, head, path, file, journal, table, c);
     }
-    answer_other(fd, head, path, file, journal, c, &table[..entries])
+    answer_other(rt, input, head, path, file, journal, c, &table[..entries])
 }
 
 fn no_counts() -> Counts {
@@ -261,20 +269,21 @@ fn no_counts() -> Counts {
 }
 
 // Reads the table that stands before the calls, and answers them. Where it is not whole, nothing is left.
-fn answer_calls(
-    fd: i32,
+fn answer_calls<R: Print + Eprint, F: Read>(
+    rt: &R,
+    input: &mut F,
     size: usize,
-    path: &[u8],
+    path: &str,
     file: &mut [u8],
     journal: &mut [u8],
     table: &mut [u32],
 ) -> bool {
-    let front = tables::take(fd, size, path, table);
+    let front = tables::take(rt, input, size, path, table);
     let mut left = front.left;
     let mut counts = no_counts();
     let mut entries = front.entries;
     while 0 < left {
-        let turn = answer_call(fd, left, path, file, journal, table, entries, counts);
+        let turn = answer_call(rt, input, left, path, file, journal, table, entries, counts);
         if turn.taken == 0 {
             return false;
         }
@@ -287,44 +296,64 @@ fn answer_calls(
 
 // ---- the buffers
 
-fn answer_with_table(
-    fd: i32,
+fn answer_with_table<R: Print + Eprint, F: Read>(
+    rt: &R,
+    input: &mut F,
     size: usize,
-    path: &[u8],
+    path: &str,
     file: &mut [u8],
     journal: &mut [u8],
 ) -> bool {
     let mut table = [0u32; tables::PLACES];
-    answer_calls(fd, size, path, file, journal, &mut table)
+    answer_calls(rt, input, size, path, file, journal, &mut table)
 }
 
 // Each byte of the file is 7 before the first call.
-fn answer_with_file(fd: i32, size: usize, path: &[u8], n: usize, journal: &mut [u8]) -> bool
+fn answer_with_file<R: Print + Eprint, F: Read>(
+    rt: &R,
+    input: &mut F,
+    size: usize,
+    path: &str,
+    n: usize,
+    journal: &mut [u8],
+) -> bool
     requires { n ≤ 401000 }
 {
     let mut file = [7u8; 401000];
-    answer_with_table(fd, size, path, &mut file[..n], journal)
+    answer_with_table(rt, input, size, path, &mut file[..n], journal)
 }
 
 // The journal is zeros before the first call.
-fn answer_with_buffers(fd: i32, size: usize, path: &[u8], n: usize, m: usize) -> bool
+fn answer_with_buffers<R: Print + Eprint, F: Read>(
+    rt: &R,
+    input: &mut F,
+    size: usize,
+    path: &str,
+    n: usize,
+    m: usize,
+) -> bool
     requires { (n ≤ 401000) × (m ≤ 1048577) }
 {
     let mut journal = [0u8; 1048577];
-    answer_with_file(fd, size, path, n, &mut journal[..m])
+    answer_with_file(rt, input, size, path, n, &mut journal[..m])
 }
 
 // The buffers may be longer than those of a good batch: the file by a record, the journal by a byte.
-pub(crate) fn answer(fd: i32, size: usize, path: &[u8]) -> bool {
+pub(crate) fn answer<R: Print + Eprint, F: Read>(
+    rt: &R,
+    input: &mut F,
+    size: usize,
+    path: &str,
+) -> bool {
     let mut lengths = [0u8; 8];
-    let got = io::read_full(fd, &mut lengths);
+    let got = items::read_full(input, &mut lengths);
     if size < 8 || got < 8 {
-        return broken(path);
+        return broken(rt, path);
     }
     let n = items::four_bytes(&[lengths[0], lengths[1], lengths[2], lengths[3]]);
     let m = items::four_bytes(&[lengths[4], lengths[5], lengths[6], lengths[7]]);
     if 401000 < n || 1048577 < m {
-        return items::too_long(path);
+        return items::too_long(rt, path);
     }
-    answer_with_buffers(fd, size - 8, path, n, m)
+    answer_with_buffers(rt, input, size - 8, path, n, m)
 }

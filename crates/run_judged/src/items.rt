@@ -1,9 +1,8 @@
 // Files of items: four bytes of length, little-endian, and the bytes, one item behind the other.
 // There is no heap, and so an item's bytes go into a buffer that the caller lends.
 ghost use Rattle.std.specs.Prelude.{◌+◌, ◌≤◌, ◌<◌, length};
-ghost use Rattle.io.specs.Counts.{IsPrefixLen};
 
-use libc::STDERR_FILENO;
+use std::io::Read;
 
 // What stands next in a file.
 #[derive(Clone, Copy)]
@@ -25,20 +24,20 @@ pub(crate) struct Taken {
 
 // ---- what is told of a file
 
-fn tell(path: &[u8], what: &[u8]) {
-    io::write_all(STDERR_FILENO, path);
-    io::write_all(STDERR_FILENO, what);
+// Where it cannot be told, nothing is.
+fn tell<R: Eprint>(rt: &R, path: &str, what: &str) {
+    let _ = eprintln!(rt; "{path} {what}");
 }
 
 // Gives false: there is nothing to go on with.
-pub(crate) fn broken(path: &[u8]) -> bool {
-    tell(path, b" is cut short or cannot be read\n");
+pub(crate) fn broken<R: Eprint>(rt: &R, path: &str) -> bool {
+    tell(rt, path, "is cut short or cannot be read");
     false
 }
 
 // Likewise.
-pub(crate) fn too_long(path: &[u8]) -> bool {
-    tell(path, b" asks for a longer buffer than there is room for\n");
+pub(crate) fn too_long<R: Eprint>(rt: &R, path: &str) -> bool {
+    tell(rt, path, "asks for a longer buffer than there is room for");
     false
 }
 
@@ -75,50 +74,52 @@ pub(crate) fn eight_at(s: &[u8], at: usize) -> u64
 
 // How many of so many bytes a buffer has room for.
 fn fitting(count: usize, buf: &[u8]) -> usize
-    ensures { (result ≤ count) × IsPrefixLen result buf.now }
+    ensures { (result ≤ count) × (result ≤ length buf.now) }
 {
     if count < buf.len() { count } else { buf.len() }
 }
 
+// Reads until the buffer is full or the file ends, and gives how many bytes it put at the buffer's start. What cannot be read is taken for the end.
+pub(crate) fn read_full<F: Read>(input: &mut F, buf: &mut [u8]) -> usize
+    ensures { result ≤ length buf.new }
+{
+    match streams::read_full(input, buf) {
+        Ok(n) => n,
+        Err(_) => 0,
+    }
+}
+
 // Reads what announces the next item.
-pub(crate) fn next_length(fd: i32) -> Next {
+pub(crate) fn next_length<F: Read>(input: &mut F) -> Next {
     let mut head = [0u8; 4];
-    let got = libc::read(fd, &mut head);
-    if got == 0 {
-        return Next::End;
+    match streams::read_full(input, &mut head) {
+        Ok(0) => Next::End,
+        Ok(4) => Next::Length(four_bytes(&head)),
+        _ => Next::Broken,
     }
-    let n = io::count(got, &head);
-    if n == 0 {
-        return Next::Broken;
-    }
-    let more = io::read_full(fd, &mut head[n..]);
-    if n + more < 4 {
-        return Next::Broken;
-    }
-    Next::Length(four_bytes(&head))
 }
 
 // Reads as many of so many bytes as the lent buffer has room for, and gives how many: fewer where the file ends.
-fn read_some(fd: i32, count: usize, buf: &mut [u8]) -> usize
+fn read_some<F: Read>(input: &mut F, count: usize, buf: &mut [u8]) -> usize
     ensures { result ≤ count }
 {
     let n = fitting(count, buf);
-    io::read_full(fd, &mut buf[..n])
+    read_full(input, &mut buf[..n])
 }
 
 // Reads past some of so many bytes, and gives how many: none where the file ends.
-fn skip_some(fd: i32, count: usize) -> usize
+fn skip_some<F: Read>(input: &mut F, count: usize) -> usize
     ensures { result ≤ count }
 {
     let mut space = [0u8; 4096];
-    read_some(fd, count, &mut space)
+    read_some(input, count, &mut space)
 }
 
 // Reads past so many bytes; false where the file has fewer.
-pub(crate) fn skip(fd: i32, count: usize) -> bool {
+pub(crate) fn skip<F: Read>(input: &mut F, count: usize) -> bool {
     let mut left = count;
     while 0 < left {
-        let got = skip_some(fd, left);
+        let got = skip_some(input, left);
         if got == 0 {
             return false;
         }
@@ -129,19 +130,25 @@ pub(crate) fn skip(fd: i32, count: usize) -> bool {
 
 // Reads an item's bytes into the lent buffer, and past those that it has no room for. Of an item that is not whole no byte
 // counts as put, and it is told.
-pub(crate) fn take_item(fd: i32, size: usize, path: &[u8], buf: &mut [u8]) -> Taken
-    ensures { IsPrefixLen result.put buf.new }
+pub(crate) fn take_item<R: Eprint, F: Read>(
+    rt: &R,
+    input: &mut F,
+    size: usize,
+    path: &str,
+    buf: &mut [u8],
+) -> Taken
+    ensures { result.put ≤ length buf.new }
 {
-    let got = read_some(fd, size, buf);
+    let got = read_some(input, size, buf);
     let room = fitting(size, buf);
-    if got == room && skip(fd, size - room) {
+    if got == room && skip(input, size - room) {
         return Taken {
             whole: true,
             put: room,
         };
     }
     Taken {
-        whole: broken(path),
+        whole: broken(rt, path),
         put: 0,
     }
 }

@@ -7,6 +7,7 @@ use fields::{
     NumberReading, ServicesReading, StatusReading, TextReading, TimeReading, WeightReading,
 };
 use ident::Parts;
+use std::io::Read;
 use text::Answer;
 
 // What is printed of a reading: 0 absent, 1 a value, 2 malformed; then the value as a number, 0 where there is none.
@@ -30,20 +31,23 @@ fn value(number: u64) -> Shown {
 // ---- a field asked for
 
 // n in eight bytes, then the record.
-fn answer_request(item: &[u8], path: &[u8]) -> bool {
+fn answer_request<R: Print + Eprint>(rt: &R, item: &[u8], path: &str) -> bool {
     if item.len() < 9 {
-        return broken(path);
+        return broken(rt, path);
     }
     let n = items::eight_at(item, 1) as usize;
     let rec = &item[9..];
     let answer = layout::field_answer(rec, n);
     let part = layout::field(rec, n);
-    print_line(&[
-        answer.code as u64,
-        answer.place as u64,
-        part.len() as u64,
-        adler(part),
-    ])
+    print_line(
+        rt,
+        &[
+            answer.code as u64,
+            answer.place as u64,
+            part.len() as u64,
+            adler(part),
+        ],
+    )
 }
 
 // ---- a part read
@@ -156,15 +160,15 @@ fn read_part(n: u8, f: &[u8]) -> Shown {
 }
 
 // The field's number, then the part. A postcode by itself has no reading: the country decides.
-fn answer_reading(item: &[u8], path: &[u8]) -> bool {
+fn answer_reading<R: Print + Eprint>(rt: &R, item: &[u8], path: &str) -> bool {
     if item.len() < 2 {
-        return broken(path);
+        return broken(rt, path);
     }
     if item[1] == 5 {
-        return broken(path);
+        return broken(rt, path);
     }
     let read = read_part(item[1], &item[2..]);
-    print_line(&[read.how, read.value])
+    print_line(rt, &[read.how, read.value])
 }
 
 // ---- a part written
@@ -185,18 +189,18 @@ fn write(part: &mut [u8], what: Writing) -> Answer {
     }
 }
 
-fn answer_written(part: &mut [u8], what: Writing) -> bool {
+fn answer_written<R: Print>(rt: &R, part: &mut [u8], what: Writing) -> bool {
     let answer = write(part, what);
-    print_line(&[answer.code as u64, answer.place as u64, adler(part)])
+    print_line(rt, &[answer.code as u64, answer.place as u64, adler(part)])
 }
 
 // Each byte of a lent part is 7 before the call.
-fn answer_writing(n: usize, what: Writing, path: &[u8]) -> bool {
+fn answer_writing<R: Print + Eprint>(rt: &R, n: usize, what: Writing, path: &str) -> bool {
     if 256 < n {
-        return items::too_long(path);
+        return items::too_long(rt, path);
     }
     let mut part = [7u8; 256];
-    answer_written(&mut part[..n], what)
+    answer_written(rt, &mut part[..n], what)
 }
 
 fn weight_of(absent: bool, n: u64) -> Writing {
@@ -214,23 +218,23 @@ fn money_of(absent: bool, n: u64) -> Writing {
 }
 
 // The field's number, the part's length in four bytes, whether it is absent, the number in eight.
-fn answer_field(item: &[u8], path: &[u8]) -> bool {
+fn answer_field<R: Print + Eprint>(rt: &R, item: &[u8], path: &str) -> bool {
     if item.len() != 15 {
-        return broken(path);
+        return broken(rt, path);
     }
     let length = items::four_at(item, 2);
     let absent = item[6] == 1;
     let n = items::eight_at(item, 7);
     if item[1] == 15 {
-        return answer_writing(length, weight_of(absent, n), path);
+        return answer_writing(rt, length, weight_of(absent, n), path);
     }
-    answer_writing(length, money_of(absent, n), path)
+    answer_writing(rt, length, money_of(absent, n), path)
 }
 
 // The part's length in four bytes, prefix, last byte, consignor and posting number in eight each.
-fn answer_identifier(item: &[u8], path: &[u8]) -> bool {
+fn answer_identifier<R: Print + Eprint>(rt: &R, item: &[u8], path: &str) -> bool {
     if item.len() != 24 {
-        return broken(path);
+        return broken(rt, path);
     }
     let length = items::four_at(item, 1);
     let parts = Parts {
@@ -240,28 +244,33 @@ fn answer_identifier(item: &[u8], path: &[u8]) -> bool {
         consignor: items::eight_at(item, 8),
         posting: items::eight_at(item, 16),
     };
-    answer_writing(length, Writing::Identifier(parts), path)
+    answer_writing(rt, length, Writing::Identifier(parts), path)
 }
 
 // ---- the item
 
-fn answer_taken(item: &[u8], path: &[u8]) -> bool {
+fn answer_taken<R: Print + Eprint>(rt: &R, item: &[u8], path: &str) -> bool {
     if item.len() == 0 {
-        return broken(path);
+        return broken(rt, path);
     }
     match item[0] {
-        0 => answer_request(item, path),
-        1 => answer_reading(item, path),
-        2 => answer_field(item, path),
-        3 => answer_identifier(item, path),
-        _ => broken(path),
+        0 => answer_request(rt, item, path),
+        1 => answer_reading(rt, item, path),
+        2 => answer_field(rt, item, path),
+        3 => answer_identifier(rt, item, path),
+        _ => broken(rt, path),
     }
 }
 
 // Room for the byte, a field's number and one byte more than a record has: what is longer is no record and no field.
-pub(crate) fn answer(fd: i32, size: usize, path: &[u8]) -> bool {
+pub(crate) fn answer<R: Print + Eprint, F: Read>(
+    rt: &R,
+    input: &mut F,
+    size: usize,
+    path: &str,
+) -> bool {
     let mut item = [0u8; 409];
-    let taken = items::take_item(fd, size, path, &mut item);
+    let taken = items::take_item(rt, input, size, path, &mut item);
     let n = taken.put;
-    taken.whole && answer_taken(&item[..n], path)
+    taken.whole && answer_taken(rt, &item[..n], path)
 }

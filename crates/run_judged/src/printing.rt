@@ -1,7 +1,6 @@
 // The lines: decimal numbers with single spaces between, and a line feed behind the last. False where nothing can be written.
 use crate::items::wide;
 use ident::{Consignor, Reading};
-use libc::STDOUT_FILENO;
 use text::{ACCEPTED, Answer};
 
 // The sum of some bytes, Adler-32.
@@ -18,15 +17,19 @@ pub(crate) fn adler(s: &[u8]) -> u64 {
 }
 
 // A number, and behind it a space, or a line feed if it is the last of its line.
-fn print_number(n: u64, last: bool) -> bool {
-    let behind = if last { b'\n' } else { b' ' };
-    io::print_decimal(STDOUT_FILENO, n) && io::write_all(STDOUT_FILENO, &[behind])
+fn print_number<R: Print>(rt: &R, n: u64, last: bool) -> bool {
+    let printed = if last {
+        println!(rt; "{n}")
+    } else {
+        print!(rt; "{n} ")
+    };
+    printed.is_ok()
 }
 
-pub(crate) fn print_line(numbers: &[u64]) -> bool {
+pub(crate) fn print_line<R: Print>(rt: &R, numbers: &[u64]) -> bool {
     let mut i = 0;
     while i < numbers.len() {
-        if !print_number(numbers[i], i + 1 == numbers.len()) {
+        if !print_number(rt, numbers[i], i + 1 == numbers.len()) {
             return false;
         }
         i += 1;
@@ -34,23 +37,26 @@ pub(crate) fn print_line(numbers: &[u64]) -> bool {
     true
 }
 
-pub(crate) fn print_answer(answer: Answer) -> bool {
-    print_line(&[answer.code as u64, answer.place as u64])
+pub(crate) fn print_answer<R: Print>(rt: &R, answer: Answer) -> bool {
+    print_line(rt, &[answer.code as u64, answer.place as u64])
 }
 
 // Code and place, and whose the identifier is: 0 and 0 for nobody's.
-pub(crate) fn print_reading(reading: Reading) -> bool {
+pub(crate) fn print_reading<R: Print>(rt: &R, reading: Reading) -> bool {
     match reading {
-        Reading::Right(parts) => print_consignor(ACCEPTED, parts.whose()),
-        Reading::Refused(answer) => print_consignor(answer, Consignor::Nobody),
+        Reading::Right(parts) => print_consignor(rt, ACCEPTED, parts.whose()),
+        Reading::Refused(answer) => print_consignor(rt, answer, Consignor::Nobody),
     }
 }
 
-fn print_consignor(answer: Answer, consignor: Consignor) -> bool {
-    print_line(&[
-        answer.code as u64,
-        answer.place as u64,
-        consignor.kind() as u64,
-        consignor.number(),
-    ])
+fn print_consignor<R: Print>(rt: &R, answer: Answer, consignor: Consignor) -> bool {
+    print_line(
+        rt,
+        &[
+            answer.code as u64,
+            answer.place as u64,
+            consignor.kind() as u64,
+            consignor.number(),
+        ],
+    )
 }

@@ -3,6 +3,7 @@ ghost use Rattle.std.specs.Prelude.{◌≤◌, ◌≡◌, length};
 
 use crate::items;
 use crate::items::broken;
+use std::io::Read;
 
 // A judged table may have one entry more than a right one.
 pub(crate) const PLACES: usize = psc::MOST_ENTRIES + 1;
@@ -27,13 +28,13 @@ fn none(told: bool) -> Front
 }
 
 // Reads so many entries into the front of the lent table; false where the file has fewer.
-fn read_entries(fd: i32, n: usize, table: &mut [u32]) -> bool
+fn read_entries<F: Read>(input: &mut F, n: usize, table: &mut [u32]) -> bool
     requires { n ≤ length table.old }
 {
     let mut i = 0;
     while i < n {
         let mut bytes = [0u8; 4];
-        if io::read_full(fd, &mut bytes) < 4 {
+        if items::read_full(input, &mut bytes) < 4 {
             return false;
         }
         table[i] = items::four_bytes(&bytes) as u32;
@@ -43,17 +44,24 @@ fn read_entries(fd: i32, n: usize, table: &mut [u32]) -> bool
 }
 
 // Reads the entries of a table, of which so many are announced, in an item that has so many bytes behind that number.
-fn take_entries(fd: i32, n: usize, left: usize, path: &[u8], table: &mut [u32]) -> Front
+fn take_entries<R: Eprint, F: Read>(
+    rt: &R,
+    input: &mut F,
+    n: usize,
+    left: usize,
+    path: &str,
+    table: &mut [u32],
+) -> Front
     ensures { (result.entries ≤ length table.new) × (result.left ≤ left) }
 {
     if table.len() < n {
-        return none(items::too_long(path));
+        return none(items::too_long(rt, path));
     }
     if left / 4 < n {
-        return none(broken(path));
+        return none(broken(rt, path));
     }
-    if !read_entries(fd, n, table) {
-        return none(broken(path));
+    if !read_entries(input, n, table) {
+        return none(broken(rt, path));
     }
     Front {
         whole: true,
@@ -63,15 +71,21 @@ fn take_entries(fd: i32, n: usize, left: usize, path: &[u8], table: &mut [u32]) 
 }
 
 // Reads the table in front of an item of so many bytes into the lent one.
-pub(crate) fn take(fd: i32, size: usize, path: &[u8], table: &mut [u32]) -> Front
+pub(crate) fn take<R: Eprint, F: Read>(
+    rt: &R,
+    input: &mut F,
+    size: usize,
+    path: &str,
+    table: &mut [u32],
+) -> Front
     ensures { (result.entries ≤ length table.new) × (result.left ≤ size) }
 {
     if size < 4 {
-        return none(broken(path));
+        return none(broken(rt, path));
     }
     let mut head = [0u8; 4];
-    if io::read_full(fd, &mut head) < 4 {
-        return none(broken(path));
+    if items::read_full(input, &mut head) < 4 {
+        return none(broken(rt, path));
     }
-    take_entries(fd, items::four_bytes(&head), size - 4, path, table)
+    take_entries(rt, input, items::four_bytes(&head), size - 4, path, table)
 }
