@@ -49,20 +49,15 @@ fn read_text<R: Files>(rt: &R, text: &mut [u8]) -> io::Result<usize>
     }
 }
 
-// Says on standard error what could not be read or written, and why. Where that cannot be said, nothing is.
-fn tell<R: Eprint>(rt: &R, what: &str, error: io::Error) {
-    let _ = eprintln!(rt; "kcheck: {what}: {error}");
-}
-
 // Reads the table only now: a call that fails for psc.txt must not look as if standard input were not read.
-fn report_on<R: Files + Print + Eprint>(rt: &R, input: &[u8]) {
+fn report_on<R: Files + Print + Eprint + AllocGlobal>(rt: &R, input: &[u8]) {
     // One byte more than the text of a table has, so that the program sees a longer one.
     let mut text = [0u8; psc::MOST_TEXT + 1];
     match read_text(rt, &mut text) {
-        Err(e) => tell(rt, "psc.txt", e),
+        Err(e) => streams::tell(rt, "kcheck: psc.txt", e),
         Ok(n) => {
             if let Err(e) = print_report(rt, &text[..n], input) {
-                tell(rt, "standard output", e);
+                streams::tell(rt, "kcheck: standard output", e);
             }
         },
     }
@@ -73,7 +68,7 @@ fn main(rt: HostRuntime) {
     let mut input = [0u8; 64161];
     // An input that was not read to its end gets no line.
     match streams::read_full(&mut rt.stdin(), &mut input) {
-        Err(e) => tell(&rt, "standard input", e),
+        Err(e) => streams::tell(&rt, "kcheck: standard input", e),
         Ok(n) => report_on(&rt, &input[..n]),
     }
 }

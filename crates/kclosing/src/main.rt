@@ -4,6 +4,7 @@
 #![tactic(auto)]
 
 ghost use Rattle.std.specs.Prelude.{◌%◌, ◌≤◌, ◌<◌, ◌≡◌, length};
+ghost use Rattle.streams.specs.Counts.{IsPrefixLen};
 ghost use Rattle.std.specs.Io.{ReadsAtMost};
 ghost use Rattle.posting.specs.Report.{under_text, longest_line, WholeLine};
 ghost use Rattle.closing.specs.Closing.{closing_answer};
@@ -56,20 +57,15 @@ fn read_text<R: Files>(rt: &R, text: &mut [u8]) -> io::Result<usize>
     }
 }
 
-// Says on standard error what could not be read or written, and why. Where that cannot be said, nothing is.
-fn tell<R: Eprint>(rt: &R, what: &str, error: io::Error) {
-    let _ = eprintln!(rt; "kcheck: {what}: {error}");
-}
-
 // Reads the table only now: a call that fails for psc.txt must not look as if standard input were not read.
-fn report_on<R: Files + Print + Eprint>(rt: &R, file: &[u8]) {
+fn report_on<R: Files + Print + Eprint + AllocGlobal>(rt: &R, file: &[u8]) {
     // One byte more than the text of a table has, so that the program sees a longer one.
     let mut text = [0u8; psc::MOST_TEXT + 1];
     match read_text(rt, &mut text) {
-        Err(e) => tell(rt, "psc.txt", e),
+        Err(e) => streams::tell(rt, "kcheck: psc.txt", e),
         Ok(n) => {
             if let Err(e) = print_report(rt, &text[..n], file) {
-                tell(rt, "standard output", e);
+                streams::tell(rt, "kcheck: standard output", e);
             }
         },
     }
@@ -94,7 +90,7 @@ fn read_on<R: Read>(input: &mut R, block: &mut [u8]) -> io::Result<usize> {
 // decides, 211 or 213 by what is left over of 401. So these are 1,000 records, less what the last one lacks.
 fn bytes_to_ask(last: usize, block: &[u8]) -> usize
     requires { length block.now ≡ 401000 }
-    ensures { (400599 < result) × (result % 401 ≡ last % 401) × (result ≤ length block.now) }
+    ensures { (400599 < result) × (result % 401 ≡ last % 401) × IsPrefixLen result block.now }
 {
     let lacking = (401 - last % 401) % 401;
     401000 - lacking
@@ -113,11 +109,21 @@ fn read_input<R: Read>(input: &mut R, block: &mut [u8]) -> io::Result<usize>
     Ok(bytes_to_ask(last, block))
 }
 
+fn close_input<R: Files + Print + Eprint + AllocGlobal, F: Read>(
+    rt: &R,
+    input: &mut F,
+    block: &mut [u8],
+)
+    requires { length block.old ≡ 401000 }
+{
+    // An input that was not read to its end gets no line.
+    match read_input(input, block) {
+        Err(e) => streams::tell(rt, "kcheck: standard input", e),
+        Ok(n) => report_on(rt, &block[..n]),
+    }
+}
+
 fn main(rt: HostRuntime) {
     let mut block = [0u8; 401000];
-    // An input that was not read to its end gets no line.
-    match read_input(&mut rt.stdin(), &mut block) {
-        Err(e) => tell(&rt, "standard input", e),
-        Ok(n) => report_on(&rt, &block[..n]),
-    }
+    close_input(&rt, &mut rt.stdin(), &mut block);
 }

@@ -1,5 +1,6 @@
 // A whole file behind the table of each item. The line has the seven numbers of the file check, or of the closing check the first three.
-ghost use Rattle.std.specs.Prelude.{◌≤◌, ◌<◌, length};
+ghost use Rattle.std.specs.Prelude.{◌<◌, length};
+ghost use Rattle.streams.specs.Counts.{IsPrefixLen};
 
 use crate::items;
 use crate::printing::print_line;
@@ -35,7 +36,7 @@ fn answer_file<R: Print>(rt: &R, file: &[u8], psc: &[u32], to_close: bool) -> bo
 // 213 by what is left over of 401. So a file too long for the buffer is answered as 1,000 records with the same bytes left over.
 fn bytes_to_ask(size: usize, bytes: &[u8]) -> usize
     requires { 401400 < length bytes.now }
-    ensures { result ≤ length bytes.now }
+    ensures { IsPrefixLen result bytes.now }
 {
     if size < bytes.len() {
         size

@@ -1,6 +1,7 @@
 // Files of items: four bytes of length, little-endian, and the bytes, one item behind the other.
 // There is no heap, and so an item's bytes go into a buffer that the caller lends.
 ghost use Rattle.std.specs.Prelude.{◌+◌, ◌≤◌, ◌<◌, length};
+ghost use Rattle.streams.specs.Counts.{IsPrefixLen};
 
 use std::io::Read;
 
@@ -74,14 +75,14 @@ pub(crate) fn eight_at(s: &[u8], at: usize) -> u64
 
 // How many of so many bytes a buffer has room for.
 fn fitting(count: usize, buf: &[u8]) -> usize
-    ensures { (result ≤ count) × (result ≤ length buf.now) }
+    ensures { (result ≤ count) × IsPrefixLen result buf.now }
 {
     if count < buf.len() { count } else { buf.len() }
 }
 
 // Reads until the buffer is full or the file ends, and gives how many bytes it put at the buffer's start. What cannot be read is taken for the end.
 pub(crate) fn read_full<F: Read>(input: &mut F, buf: &mut [u8]) -> usize
-    ensures { result ≤ length buf.new }
+    ensures { IsPrefixLen result buf.new }
 {
     match streams::read_full(input, buf) {
         Ok(n) => n,
@@ -137,7 +138,7 @@ pub(crate) fn take_item<R: Eprint, F: Read>(
     path: &str,
     buf: &mut [u8],
 ) -> Taken
-    ensures { result.put ≤ length buf.new }
+    ensures { IsPrefixLen result.put buf.new }
 {
     let got = read_some(input, size, buf);
     let room = fitting(size, buf);

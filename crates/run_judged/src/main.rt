@@ -151,12 +151,12 @@ fn answer_rest<R: Print + Eprint, F: Read>(rt: &R, kind: Kind, input: &mut F, pa
 }
 
 // Answers each item of the file. A kind without a file is not asked for, and so there is nothing to tell.
-fn answer_all<R: Files + Print + Eprint>(rt: &R, kind: Kind, path: &str) {
+fn answer_all<R: Files + Print + Eprint + AllocGlobal>(rt: &R, kind: Kind, path: &str) {
     match fs::open(rt, path) {
         Ok(mut input) => answer_rest(rt, kind, &mut input, path),
         Err(e) => {
             if e.kind() != ErrorKind::NotFound {
-                let _ = eprintln!(rt; "{path}: {e}");
+                streams::tell(rt, path, e);
             }
         },
     }
