@@ -12,6 +12,11 @@ tried=0 wrong=0
 other_user=()
 if [ "$(id -u)" = 0 ]; then other_user=(setpriv --reuid=65534 --regid=65534 --clear-groups); fi
 
+# The files of this tree that a copy of it needs to build, without what rt made in the crates' folders.
+copy_tree() { # FROM TO FILE..
+    (cd "$1" && tar -cf - --exclude='crates/*/out' "${@:3}") | tar -xf - -C "$2"
+}
+
 there_is_another_user() {
     "${other_user[@]}" test -r "$room" && return
     echo "${0##*/}: there is no other user to be here, so a tree of somebody else's was not tried" >&2

@@ -33,7 +33,7 @@ rows_of() { # CRATE
             for (i = 1; i <= count; i++) show(below[i])
         }
         { sub(/#.*/, "") }
-        /:/ { name = $0; sub(/:.*/, "", name); gsub(/[ \t]/, "", name); sub(/^[^:]*:/, ""); rests[name] = $0 }
+        /:/ { name = $0; sub(/:.*/, "", name); sub(/^[ \t]+/, "", name); sub(/[ \t].*/, "", name); sub(/^[^:]*:/, ""); rests[name] = $0 }
         END { show(wanted) }' "$tree/crates.txt"
 }
 
@@ -83,12 +83,12 @@ target_can_be_written() {
     if [ -e "$tree/target" ]; then [ -w "$tree/target" ]; else [ -w "$tree" ]; fi
 }
 
-# Passes on what rt says, and tells of each crate as it is proved. Of those that are unchanged there is nothing to tell.
+# Passes on what rt says, and tells of each crate as its proof begins. Of those that are unchanged there is nothing to tell.
 tell_progress() {
     local line
     while IFS= read -r line; do
         echo "$line"
-        case $line in "rt: "*" proved ("[0-9]*" s)") tell "${line#rt: }" ;; esac
+        case $line in "rt: chose --jobs "*" for "*) tell "proving ${line##* for }" ;; esac
     done
 }
 
@@ -114,14 +114,20 @@ tell_why_it_is_built() { # CRATE
     fi
 }
 
+# By rename, so that a program that is running stays whole.
+keep_product() { # CRATE FILE
+    local kept
+    kept=$(product "$1")
+    mkdir -p "${kept%/*}" && cp "$2" "$kept.$$" && mv -f "$kept.$$" "$kept"
+}
+
+# Of a program rt proves, builds and runs in one: it is then run on no input, and what it prints is passed on with the rest.
 ask_rt() { # CRATE
-    cd "$tree" || return
+    cd "$tree/crates/$1" || return
     if is_program "$1"; then
-        # where the program is gone, rt would still take its own note for it
-        if [ ! -e "$(product "$1")" ]; then rm -f "target/stamp/$1"; fi
-        rt check "$1"
+        rt run && keep_product "$1" "out/$1"
     else
-        rt staticlib "$1"
+        rt lib && keep_product "$1" "out/lib$1.a"
     fi </dev/null 2>&1
 }
 
@@ -169,7 +175,7 @@ kit_tools() {
     fi
     # a program may be run in another folder than this one
     case $kit in /*) ;; *) kit=$PWD/$kit ;; esac
-    kit=$kit/on/$(uname -m)/toolchain
+    kit=$kit/toolchain
     [ -r "$kit/lib/ld-linux-x86-64.so.2" ] && echo "$kit"
 }
 

@@ -2,9 +2,9 @@
  * Composes consignments field by field, adds them to an open batch, cancels two of them, undoes the second cancellation,
  * and writes the K file of the batch to standard output. What was refused, and why, goes to standard error.
  *
- * Build, at the repository's root, after `rt staticlib fuganorezi`:
+ * Build, at the repository's root, after `rt lib` in crates/fuganorezi:
  *
- *     cc -std=c11 -O2 -Iinclude -o compose examples/c/compose.c target/staticlib/libfuganorezi.a
+ *     cc -std=c11 -O2 -Iinclude -o compose examples/c/compose.c crates/fuganorezi/out/libfuganorezi.a
  *
  * Use: compose >FILE
  * Status 0: every consignment was added. 1: some were not. 2: a text is too long for its field, or FILE cannot be written.

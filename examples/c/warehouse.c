@@ -1,9 +1,9 @@
 /*
  * A warehouse's check before a K file goes to the post: what is wrong in it, in words, or its totals in crowns.
  *
- * Build, at the repository's root, after `rt staticlib fuganorezi`:
+ * Build, at the repository's root, after `rt lib` in crates/fuganorezi:
  *
- *     cc -std=c11 -O2 -Iinclude -o warehouse examples/c/warehouse.c target/staticlib/libfuganorezi.a
+ *     cc -std=c11 -O2 -Iinclude -o warehouse examples/c/warehouse.c crates/fuganorezi/out/libfuganorezi.a
  *
  * Use: warehouse [--closing] TABLE FILE
  * TABLE has the postcodes that exist, as psc.txt has them: five digits and a line feed a line, rising.
