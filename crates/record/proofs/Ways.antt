@@ -3,10 +3,13 @@
 use Prim.Native.Nat.{ℕ, suc, ◌+◌, ◌≤◌, ◌<◌}
 use mathlib.Core.Path.{◌≡◌, refl, sym, ap, ap₂, ◌∙◌}
 use mathlib.Core.Bool.{Bool, true, false, not, ◌&&◌, ◌||◌, and-false}
+use mathlib.Core.Logic.{⊎_elim}
 use mathlib.Core.List.{List, [], ◌∷◌, ◌++◌}
 use native.Mathlib.Omega.{arith}
 use native.Mathlib.Numerals.{add-one}
 use borrow.Author.Tests.{eq-eqb, ne_eqb, not-true, not-false}
+use denote.Enum.Declared.{tag_of}
+use types.Run.{OneOf}
 use lib.Dec.{eqb, ltb}
 use lib.ListN.{length, get_or, drop, drop_of_length-le}
 use lib.Seq.{drop-cons}
@@ -39,6 +42,8 @@ use Rattle.fields.specs.Others.{malformed_country, absent_country, malformed_emp
 use Rattle.fields.specs.Postcodes.{malformed_postcode, absent_postcode}
 use Rattle.fields.specs.Amounts.{malformed_weight, malformed_money, absent_money, absent_or_zero_money}
 use Rattle.fields.specs.Services.{has_code, malformed_services, services_in, several_sizes}
+use Rattle.fields.specs.contracts.amounts.WeightReading as Weights
+use Rattle.fields.specs.contracts.postcodes.PostcodeReading as Postcodes
 use Rattle.record.specs.declared.readings.Address.{Address}
 use Rattle.record.specs.declared.readings.Street.{Street}
 use Rattle.record.specs.declared.readings.Contact.{Contact}
@@ -182,11 +187,18 @@ code_with_41 first second p s e = rw e
 pub code_without : (first second p : ℕ) (s : Bool) → s ≡ false → answer second p ≡ verdict (two_codes first second p true s)
 code_without first second p s e = rw e
 
-pub postcode_other : (known : Known) (w : PostcodeReading) (s : Bool) → ((n : ℕ) → w ≡ Postcode.Domestic n → ⊥) → accepted ≡ verdict (postcode_rules known w s)
+pub postcode_other : (known : Known) (w : PostcodeReading) (s : Bool) → OneOf (0 ∷ 2 ∷ 3 ∷ []) (tag_of Postcodes.the_type w) → accepted ≡ verdict (postcode_rules known w s)
 postcode_other known Postcode.Absent s t = refl
-postcode_other known (Postcode.Domestic n) s t = absurd (t n refl)
+postcode_other known (Postcode.Domestic n) s t =
+    absurd (⊎_elim (λ (e : ◌≡◌ {A = ℕ} 1 0). omega arith) (⊎_elim (λ (e : ◌≡◌ {A = ℕ} 1 2). omega arith) (λ (e : ◌≡◌ {A = ℕ} 1 3). omega arith)) t)
 postcode_other known (Postcode.Foreign n) s t = refl
 postcode_other known Postcode.Malformed s t = refl
+
+pub postcode_not_domestic : (known : Known) (w : PostcodeReading) (s : Bool) → ((n : ℕ) → w ≡ Postcode.Domestic n → ⊥) → accepted ≡ verdict (postcode_rules known w s)
+postcode_not_domestic known Postcode.Absent s t = refl
+postcode_not_domestic known (Postcode.Domestic n) s t = absurd (t n refl)
+postcode_not_domestic known (Postcode.Foreign n) s t = refl
+postcode_not_domestic known Postcode.Malformed s t = refl
 
 pub postcode_known : (known : Known) (w : PostcodeReading) (n : ℕ) (s f : Bool) → w ≡ Postcode.Domestic n → f ≡ known n → f ≡ true → accepted ≡ verdict (postcode_rules known w s)
 postcode_known known w n s f e k t = rw (e, ← k, t)
@@ -195,10 +207,15 @@ pub postcode_unknown : (known : Known) (w : PostcodeReading) (n : ℕ) (s f : Bo
     → r ≡ verdict (postcode_rules known w s)
 postcode_unknown known w n s f r e k t g = rw (e, ← k, t) g
 
-pub weight_none : (w : WeightReading) (s : Bool) (r : Answer) → ((g : Grams) → w ≡ Weight.Value g → ⊥) → r ≡ verdict (two_codes 31 34 15 true s) → r ≡ verdict (weight_rules w s)
+pub weight_none : (w : WeightReading) (s : Bool) (r : Answer) → OneOf (0 ∷ 2 ∷ []) (tag_of Weights.the_type w) → r ≡ verdict (two_codes 31 34 15 true s) → r ≡ verdict (weight_rules w s)
 weight_none Weight.Absent s r t e = e
-weight_none (Weight.Value g) s r t e = absurd (t g refl)
+weight_none (Weight.Value g) s r t e = absurd (⊎_elim (λ (e : ◌≡◌ {A = ℕ} 1 0). omega arith) (λ (e : ◌≡◌ {A = ℕ} 1 2). omega arith) t)
 weight_none Weight.Malformed s r t e = e
+
+pub weight_no_value : (w : WeightReading) (s : Bool) (r : Answer) → ((g : Grams) → w ≡ Weight.Value g → ⊥) → r ≡ verdict (two_codes 31 34 15 true s) → r ≡ verdict (weight_rules w s)
+weight_no_value Weight.Absent s r t e = e
+weight_no_value (Weight.Value g) s r t e = absurd (t g refl)
+weight_no_value Weight.Malformed s r t e = e
 
 pub weight_zero : (w : WeightReading) (g : Grams) (s : Bool) (r : Answer) → w ≡ Weight.Value g → g.0 ≡ 0 → r ≡ verdict (two_codes 31 34 15 true s) → r ≡ verdict (weight_rules w s)
 weight_zero w g s r e z h = rw (e, eq-eqb g.0 0 z) h

@@ -1,5 +1,5 @@
 // Files of items: four bytes of length, little-endian, and the bytes, one item behind the other.
-// There is no heap, and so an item's bytes go into a buffer that the caller lends.
+// An item's bytes go into a buffer that the caller lends, and so none is too long for the heap.
 ghost use Rattle.std.specs.Prelude.{◌+◌, ◌≤◌, ◌<◌, length};
 ghost use Rattle.streams.specs.Counts.{IsPrefixLen};
 
@@ -84,10 +84,18 @@ fn fitting(count: usize, buf: &[u8]) -> usize
 pub(crate) fn read_full<F: Read>(input: &mut F, buf: &mut [u8]) -> usize
     ensures { IsPrefixLen result buf.new }
 {
-    match streams::read_full(input, buf) {
-        Ok(n) => n,
-        Err(_) => 0,
+    let mut done = 0;
+    while done < buf.len() {
+        let n = match input.read(&mut buf[done..]) {
+            Ok(n) => n,
+            Err(_) => 0,
+        };
+        if n == 0 {
+            break;
+        }
+        done += n;
     }
+    done
 }
 
 // Reads what announces the next item.

@@ -82,6 +82,11 @@ last_tell test k s i b within known few long eb = go (every test (drop (length s
     go false et true eu = absurd (clash (every_behind test (length s - k) s eu) et)
     go false et false eu = there ∙ et ∙ sym eu
 
+-- of eight
+pub last_eight : (test : ℕ → Bool) (s : List ℕ) (i : ℕ) (b : Bool) → i ≤ length s → every test (drop i s) ≡ every test s → length s - i < 8 → 8 ≤ length s
+    → b ≡ every test (take 8 (drop (length s - 8) s)) → b ≡ every test s
+last_eight test s i b within known few long eb = last_tell test 8 s i b within known few long eb
+
 -- where fewer than twice k stand, the first k and the last k tell
 pub both_ends : (test : ℕ → Bool) (k : ℕ) (s : List ℕ) (a b : Bool) → k ≤ length s → length s < k + k → a ≡ every test (take k s) → b ≡ every test (take k (drop (length s - k) s))
     → (a && b) ≡ every test s

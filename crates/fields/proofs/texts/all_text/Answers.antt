@@ -3,7 +3,7 @@ use borrow.Author.Rules.{rules}
 use native.Mathlib.Omega.{arith}
 use mathlib.Core.Path.{refl}
 use Rattle.text.proofs.Loops.{every_fails, every_on, every_ends}
-use Rattle.text.proofs.Words.{chunk_fails, chunk_on, last_tell}
+use Rattle.text.proofs.Words.{chunk_fails, chunk_on, last_eight}
 use Rattle.fields.specs.Texts.{is_text}
 use Rattle.fields.proofs.texts.all_text.Goals as goal
 
@@ -17,7 +17,7 @@ pub loop-i-preserved : goal.loop-i-preserved
 loop-i-preserved c = (omega arith, search (chunk_on is_text))
 
 pub returns-then-f-ge8 : goal.returns-then-f-ge8
-returns-then-f-ge8 c = search (last_tell is_text 8)
+returns-then-f-ge8 c = search (last_eight is_text)
 
 pub loop-i-2-init : goal.loop-i-2-init
 loop-i-2-init c = (omega arith, search rules)
