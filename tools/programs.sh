@@ -56,7 +56,7 @@ sum_of_sources() { # CRATE
 }
 
 # What is left in target/ beside a product: the numbers of the sources that it was built from and of the product itself. Where
-# they are still the same, it is up to date, and rt need not be asked: it writes to target/, and not every user may.
+# they are still the same, it is up to date, and rt need not be asked: it writes to the tree, and not every user may.
 fingerprint_file() { # CRATE
     echo "$tree/target/fingerprint/$1"
 }
@@ -147,7 +147,7 @@ build_crate() { # CRATE
     leave_fingerprint "$1" "$sum"
 }
 
-# Two runs of rt in one target/ would spoil each other's work.
+# Two runs of rt in one tree wait for each other, and say nothing of it.
 wait_for_turn() {
     command -v flock >/dev/null || return 0
     flock -n 9 || { tell "another run is building here; this one waits for it" && flock 9; }
