@@ -57,15 +57,34 @@ fn read_text<R: Files>(rt: &R, text: &mut [u8]) -> io::Result<usize>
     }
 }
 
+// The words of a message without the number that std puts behind those of the system.
+fn words(message: &str) -> &str {
+    match message.split_once(" (os error ") {
+        Some((words, _)) => words,
+        None => message,
+    }
+}
+
+// Says on standard error what could not be read or written, and why. Where that cannot be said, nothing is.
+fn tell<R: Eprint + AllocGlobal>(rt: &R, what: &str, error: io::Error) {
+    let _ = match format!(in rt.alloc(); "{error}") {
+        Ok(message) => {
+            let why = words(message.as_str());
+            eprintln!(rt; "kcheck: {what}: {why}")
+        },
+        Err(_) => eprintln!(rt; "kcheck: {what}: {error}"),
+    };
+}
+
 // Reads the table only now: a call that fails for psc.txt must not look as if standard input were not read.
 fn report_on<R: Files + Print + Eprint + AllocGlobal>(rt: &R, file: &[u8]) {
     // One byte more than the text of a table has, so that the program sees a longer one.
     let mut text = [0u8; psc::MOST_TEXT + 1];
     match read_text(rt, &mut text) {
-        Err(e) => streams::tell(rt, "kcheck: psc.txt", e),
+        Err(e) => tell(rt, "psc.txt", e),
         Ok(n) => {
             if let Err(e) = print_report(rt, &text[..n], file) {
-                streams::tell(rt, "kcheck: standard output", e);
+                tell(rt, "standard output", e);
             }
         },
     }
@@ -118,7 +137,7 @@ fn close_input<R: Files + Print + Eprint + AllocGlobal, F: Read>(
 {
     // An input that was not read to its end gets no line.
     match read_input(input, block) {
-        Err(e) => streams::tell(rt, "kcheck: standard input", e),
+        Err(e) => tell(rt, "standard input", e),
         Ok(n) => report_on(rt, &block[..n]),
     }
 }

@@ -36,9 +36,9 @@ use Rattle.fields.specs.declared.texts.TextReading.{TextReading}
 use Rattle.fields.specs.Frame.{framed}
 use Rattle.fields.specs.Texts.{is_text, read_text, malformed_text, absent_text}
 use Rattle.fields.specs.Numbers.{read_symbol, malformed_number, absent_number, number_in}
-use Rattle.fields.specs.Others.{read_country, read_empty, malformed_country, absent_country, malformed_empty, malformed_main, absent_main}
+use Rattle.fields.specs.Others.{read_country, read_status, read_empty, malformed_country, absent_country, malformed_empty, malformed_main, absent_main}
 use Rattle.fields.specs.Postcodes.{read_postcode, malformed_postcode, absent_postcode}
-use Rattle.fields.specs.Amounts.{absent_or_zero_weight, malformed_money, absent_money, absent_or_zero_money}
+use Rattle.fields.specs.Amounts.{read_money, absent_or_zero_weight, malformed_money, absent_money, absent_or_zero_money}
 use Rattle.fields.specs.Dates.{malformed_date, malformed_time}
 use Rattle.fields.specs.Services.{has_code, malformed_services, services_in, several_sizes}
 use Rattle.fields.proofs.ByteLaws.{every_take}
@@ -508,3 +508,8 @@ judged_long t rec r e g = rw (eq-eqb (length rec) 399 e) g
 
 pub judged_check : (a : Answer) (rec : List ℕ) (r : CheckWithAmounts) → r ≡ with_amounts a rec → r.check ≡ with_consignor a rec
 judged_check a rec r e = ap (λ (x : CheckWithAmounts). x.check) e
+
+-- beside the answer stand fields 19, 16 and 17, each as it is read
+pub amounts_read : (a : Answer) (rec : List ℕ)
+    → ((with_amounts a rec).status ≡ read_status (field_of rec 19)) × ((with_amounts a rec).cash ≡ read_money (field_of rec 16)) × ((with_amounts a rec).price ≡ read_money (field_of rec 17))
+amounts_read a rec = (refl, refl, refl)

@@ -11,9 +11,9 @@ mod tables;
 
 use items::Next;
 use printing::{print_answer, print_reading};
-use std::fs;
 use std::io::{ErrorKind, Read};
 use std::rt::Files;
+use std::{fs, io};
 
 // What stands behind the table of an item, and so which call answers it.
 #[derive(Clone, Copy)]
@@ -150,13 +150,32 @@ fn answer_rest<R: Print + Eprint, F: Read>(rt: &R, kind: Kind, input: &mut F, pa
     }
 }
 
+// The words of a message without the number that std puts behind those of the system.
+fn words(message: &str) -> &str {
+    match message.split_once(" (os error ") {
+        Some((words, _)) => words,
+        None => message,
+    }
+}
+
+// Says on standard error why a file could not be opened. Where that cannot be said, nothing is.
+fn tell<R: Eprint + AllocGlobal>(rt: &R, path: &str, error: io::Error) {
+    let _ = match format!(in rt.alloc(); "{error}") {
+        Ok(message) => {
+            let why = words(message.as_str());
+            eprintln!(rt; "{path}: {why}")
+        },
+        Err(_) => eprintln!(rt; "{path}: {error}"),
+    };
+}
+
 // Answers each item of the file. A kind without a file is not asked for, and so there is nothing to tell.
 fn answer_all<R: Files + Print + Eprint + AllocGlobal>(rt: &R, kind: Kind, path: &str) {
     match fs::open(rt, path) {
         Ok(mut input) => answer_rest(rt, kind, &mut input, path),
         Err(e) => {
             if e.kind() != ErrorKind::NotFound {
-                streams::tell(rt, path, e);
+                tell(rt, path, e);
             }
         },
     }
