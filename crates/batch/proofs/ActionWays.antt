@@ -1,32 +1,36 @@
 -- Actions on the file: each turn of the loops, and each way out of the functions.
 -- Assumes nothing.
 use Prim.Native.Nat.{ℕ, zero, suc, ◌+◌, ◌-◌, ◌*◌, ◌≤◌, ◌<◌}
-use mathlib.Core.Path.{◌≡◌, refl, sym, ap, ◌∙◌}
-use mathlib.Core.Bool.{Bool, true, false, cond}
-use mathlib.Core.List.{List, [], ◌∷◌, ◌++◌, append_assoc}
+use mathlib.Core.Path.{◌≡◌, refl, sym, ap, ◌∙◌, subst}
+use mathlib.Core.Bool.{Bool, true, false, cond, not}
+use lib.Dec.{eqb}
+use mathlib.Core.List.{List, [], ◌∷◌, ◌++◌}
 use native.Mathlib.Nat.{add-sub_cancel_left}
-use native.Mathlib.Numerals.{add-one}
 use native.Mathlib.Omega.{arith}
-use borrow.Author.Tests.{eq-eqb, ne_eqb, le-leb, lt-leb}
+use borrow.Author.Tests.{ne_eqb, le-leb, lt-leb}
 use borrow.Rule.Slice.PartMut.{put_mid}
-use lib.ListN.{length, get_or, take, drop, set, length-append, length-drop}
-use lib.Seq.{take-suc, take_all, drop-cons, set_at, append_snoc, length-take-le}
+use lib.ListN.{length, take, drop, length-append, length-drop, drop_of_length-le}
+use lib.Seq.{take_at}
+use Rattle.std.specs.Prelude.{Option, Some, None, is_some, IsSome, Result, Ok, Err, ⊤}
+use Rattle.std.specs.Result.{IsErrAnd}
+use Rattle.std.proofs.lemmas.Result.{err_from_is_err_and}
+use Rattle.text.specs.declared.Refusal.{Refusal}
+use Rattle.text.proofs.Refusals.{refuses, not_accepted}
 use Rattle.psc.specs.Table.{Known}
 use Rattle.text.specs.declared.Answer.{Answer}
-use Rattle.text.specs.Answers.{answer, accepted}
+use Rattle.text.specs.Answers.{answer, answer_of, answered, accepted, or_else}
 use Rattle.text.specs.Lists.{same_bytes}
-use Rattle.text.proofs.Lists.{spelled, put_is}
+use Rattle.text.proofs.Lists.{put_is}
 use Rattle.ident.specs.Identifier.{right_id}
 use Rattle.ident.specs.Calls.{Checked}
 use Rattle.layout.specs.Layout.{field_of}
-use Rattle.text.proofs.AnswerLaws.{or_first, or_second}
 use Rattle.ident.specs.declared.consignor.Consignor.{Consignor}
 use Rattle.ident.specs.Consignor.{another}
 use Rattle.record.specs.declared.RecordCheck.{RecordCheck}
 use Rattle.record.specs.Rules.{to_post, record_answer}
-use Rattle.record.specs.Consignors.{consignor_of, with_consignor}
+use Rattle.record.specs.Consignors.{WithConsignor, consignor_of}
 use Rattle.posting.specs.File.{line_of, id_at}
-use Rattle.batch.specs.Places.{record_number, live_answer, add_answer, amend_answer, cancel_answer, with_line, action_answer}
+use Rattle.batch.specs.Places.{number_of_place, record_number, present, live_answer, add_answer, amend_answer, cancel_answer, action_answer}
 
 -- ---- record_number: one record down
 seek_down : (file id : List ℕ) (j : ℕ) → 0 < j → record_number file id j ≡ cond (same_bytes (id_at file (j - 1)) id) j (record_number file id (j - 1))
@@ -39,8 +43,8 @@ module _ (file id : List ℕ) (j r : ℕ) (b : Bool) (so : record_number file id
   here : b ≡ same_bytes (id_at file (j - 1)) id
   here = eb ∙ rw (add-sub_cancel_left)
 
-  pub seek_found : b ≡ true → j ≡ r
-  seek_found t = rw (seek_down file id j h, ← here, t) at so
+  pub seek_found : b ≡ true → j - 1 + 1 ≡ r
+  seek_found t = let e : j ≡ r = rw (seek_down file id j h, ← here, t) at so in omega (arith, e, h)
 
   pub seek_on : b ≡ false → record_number file id (j - 1) ≡ r
   seek_on t = rw (seek_down file id j h, ← here, t) at so
@@ -49,106 +53,109 @@ pub seek_none : (file id : List ℕ) (j r : ℕ) → record_number file id j ≡
 unfolding record_number
 seek_none file id j r so h = let z : j ≡ 0 = omega arith in rw z at so
 
--- ---- live_answer
-module _ (file id : List ℕ) (held n : ℕ) (en : (n ≡ record_number file id held) × (n ≤ held)) where
-  pub not_present : n ≡ 0 → answer 232 0 ≡ live_answer file held id
-  not_present z = rw (← en.0, z)
+-- ---- the place that is found
+pub place_found : (file id : List ℕ) (held : ℕ) (r : Option ℕ) → (number_of_place r ≡ record_number file id held) × (number_of_place r ≤ held) → (k : ℕ) → r ≡ Some k
+    → (k + 1 ≡ record_number file id held) × (k + 1 ≤ held)
+place_found file id held r en k q = subst (λ (x : Option ℕ). (number_of_place x ≡ record_number file id held) × (number_of_place x ≤ held)) q en
 
-  pub is_cancelled_lem : (n ≡ 0 → ⊥) → get_or file ((n - 1) * 401 + 340) 0 ≡ 48 → answer 233 0 ≡ live_answer file held id
-  is_cancelled_lem m e = rw (← en.0, ne_eqb n 0 m, eq-eqb (get_or file ((n - 1) * 401 + 340) 0) 48 e)
-
-  pub is_live_lem : (n ≡ 0 → ⊥) → (get_or file ((n - 1) * 401 + 340) 0 ≡ 48 → ⊥) → accepted ≡ live_answer file held id
-  is_live_lem m e = rw (← en.0, ne_eqb n 0 m, ne_eqb (get_or file ((n - 1) * 401 + 340) 0) 48 e)
+pub some_place : (r : Option ℕ) → 1 ≤ number_of_place r → IsSome r
+some_place None h = absurd (omega (arith, h))
+some_place (Some k) h = refl
 
 -- ---- add_answer, amend_answer, cancel_answer, action_answer
+-- a refusal that is passed on, and what comes behind where there is none
+pub refused : (q : Result ⊤ Refusal) (e : Refusal) (a b : Answer) → IsErrAnd q (λ y. y ≡ e) → answer_of e ≡ a → answered q ≡ or_else a b
+unfolding or_else
+refused q e a b given said =
+    let p = err_from_is_err_and q given in
+    rw (p.1, p.2, ← said, refuses e)
 
-module _ (known : Known) (file rec : List ℕ) (held : ℕ) (k : RecordCheck) (ek : k ≡ with_consignor (record_answer (to_post known) rec) rec) where
-  abbrev a : Answer
-  a = k.answer
+passed : (r a b : Answer) → accepted ≡ a → r ≡ b → r ≡ or_else a b
+unfolding or_else
+passed r a b said next = rw (← said) next
 
-  ea : a ≡ record_answer (to_post known) rec
-  ea = ap (λ (x : RecordCheck). x.answer) ek
+module _ (known : Known) (file rec : List ℕ) (held : ℕ) (k : RecordCheck) (ek : WithConsignor (record_answer (to_post known) rec) rec k) where
+  said : (e : Refusal) → k.answer ≡ Err e → answer_of e ≡ record_answer (to_post known) rec
+  said e is = sym (ap answered is) ∙ ek.0
 
-  pub add_broken : (seen : Consignor) → (k.answer.code ≡ 0 → ⊥) → k.answer ≡ add_answer known file held seen rec
+  pub add_broken : (seen : Option Consignor) (e : Refusal) → k.answer ≡ Err e → (q : Result ⊤ Refusal) → IsErrAnd q (λ y. y ≡ e) → answered q ≡ add_answer known file held seen rec
   unfolding add_answer
-  add_broken seen n = rw (← ea) (or_first a _ n)
+  add_broken seen e is q given = refused q e (record_answer (to_post known) rec) _ given (said e is)
 
-  pub amend_broken : (k.answer.code ≡ 0 → ⊥) → k.answer ≡ amend_answer known file held rec
+  pub amend_broken : (e : Refusal) → k.answer ≡ Err e → (q : Result ⊤ Refusal) → IsErrAnd q (λ y. y ≡ e) → answered q ≡ amend_answer known file held rec
   unfolding amend_answer
-  amend_broken n = rw (← ea) (or_first a _ n)
+  amend_broken e is q given = refused q e (record_answer (to_post known) rec) _ given (said e is)
 
-  module _ (z : k.answer.code ≡ 0) (id : List ℕ) (ei : id ≡ field_of rec 1) where
+  module _ (x : ⊤) (z : k.answer ≡ Ok x) (id : List ℕ) (ei : id ≡ field_of rec 1) where
+    good : accepted ≡ record_answer (to_post known) rec
+    good = sym (ap answered z) ∙ ek.0
+
     pub amend_live : (r : Answer) → r ≡ live_answer file held id → r ≡ amend_answer known file held rec
     unfolding amend_answer
-    amend_live r e = rw (← ea, ← ei) (e ∙ or_second a (live_answer file held id) z)
+    amend_live r e = passed r (record_answer (to_post known) rec) _ good (e ∙ ap (live_answer file held) ei)
 
-    module _ (n : ℕ) (en : (n ≡ record_number file id held) × (n ≤ held)) where
-      pub add_repeats : (seen : Consignor) → (n ≡ 0 → ⊥) → answer 2 1 ≡ add_answer known file held seen rec
+    module _ (n : Option ℕ) (en : (number_of_place n ≡ record_number file id held) × (number_of_place n ≤ held)) where
+      there : present file (field_of rec 1) held ≡ is_some n
+      there = ap (λ (x : ℕ). not (eqb x 0)) (sym (en.0 ∙ ap (λ (x : List ℕ). record_number file x held) ei)) ∙ go n
+        where
+          go : (o : Option ℕ) → not (eqb (number_of_place o) 0) ≡ is_some o
+          go None = refl
+          go (Some k) = rw (ne_eqb (k + 1) 0 (λ q. omega (arith, q)))
+
+      pub add_repeats : (seen : Option Consignor) → is_some n ≡ true → answer 2 1 ≡ add_answer known file held seen rec
       unfolding add_answer
-      add_repeats seen m = rw (← ea, ← ei, ← en.0, ne_eqb n 0 m) (or_second a (answer 2 1) z)
+      add_repeats seen m = passed (answer 2 1) (record_answer (to_post known) rec) _ good (rw (there ∙ m))
 
-      module _ (m : n ≡ 0) (seen : Consignor) (w : Bool) (ew : w ≡ another seen k.consignor) where
+      module _ (m : is_some n ≡ false) (seen : Option Consignor) (w : Bool) (ew : w ≡ another seen k.consignor) where
         other : another seen (consignor_of rec) ≡ w
-        other = ap (λ (x : RecordCheck). another seen x.consignor) (sym ek) ∙ sym ew
+        other = ap (another seen) (sym ek.1) ∙ sym ew
 
         pub add_strays : w ≡ true → answer 241 1 ≡ add_answer known file held seen rec
         unfolding add_answer
-        add_strays t = rw (← ea, other, ← ei, ← en.0, eq-eqb n 0 m, t) (or_second a (answer 241 1) z)
+        add_strays t = passed (answer 241 1) (record_answer (to_post known) rec) _ good (rw (there ∙ m, other ∙ t))
 
-        pub add_room : w ≡ false → held * 401 + 401 ≤ length file → accepted ≡ add_answer known file held seen rec
+        pub add_room : w ≡ false → 401 ≤ length file - held * 401 → accepted ≡ add_answer known file held seen rec
         unfolding add_answer
-        add_room t h = rw (← ea, other, ← ei, ← en.0, eq-eqb n 0 m, t, le-leb (held * 401 + 401) (length file) h) (or_second a accepted z)
+        add_room t h = passed accepted (record_answer (to_post known) rec) _ good (rw (there ∙ m, other ∙ t, le-leb (held * 401 + 401) (length file) (omega (arith, h))))
 
-        pub add_full : w ≡ false → length file < held * 401 + 401 → answer 230 0 ≡ add_answer known file held seen rec
+        pub add_full : w ≡ false → length file - held * 401 < 401 → answer 230 0 ≡ add_answer known file held seen rec
         unfolding add_answer
-        add_full t h = rw (← ea, other, ← ei, ← en.0, eq-eqb n 0 m, t, lt-leb (held * 401 + 401) (length file) h) (or_second a (answer 230 0) z)
+        add_full t h = passed (answer 230 0) (record_answer (to_post known) rec) _ good (rw (there ∙ m, other ∙ t, lt-leb (held * 401 + 401) (length file) (omega (arith, h))))
 
-module _ (file id : List ℕ) (held : ℕ) (a : Answer) (ea : Checked id a) where
-  pub cancel_broken : (a.code ≡ 0 → ⊥) → a ≡ cancel_answer file held id
+module _ (file id : List ℕ) (held : ℕ) (a : Result ⊤ Refusal) (ea : Checked id (answered a)) where
+  pub cancel_broken : (e : Refusal) → a ≡ Err e → (q : Result ⊤ Refusal) → IsErrAnd q (λ y. y ≡ e) → answered q ≡ cancel_answer file held id
   unfolding cancel_answer
-  cancel_broken n = ea ∙ go (right_id id) refl
+  cancel_broken e is q given = let p = err_from_is_err_and q given in ap answered p.1 ∙ ap answer_of p.2 ∙ go (right_id id) (sym (ap answered is) ∙ ea)
     where
-      go : (t : Bool) → right_id id ≡ t → cond t accepted (answer 1 1) ≡ cond t (live_answer file held id) (answer 1 1)
-      go true e = absurd (n (ap (λ (x : Answer). x.code) ea ∙ rw e))
-      go false e = refl
+      go : (t : Bool) → answer_of e ≡ cond t accepted (answer 1 1) → answer_of e ≡ cond t (live_answer file held id) (answer 1 1)
+      go true h = absurd (not_accepted e (sym h))
+      go false h = h
 
-  pub cancel_live : (r : Answer) → a.code ≡ 0 → r ≡ live_answer file held id → r ≡ cancel_answer file held id
+  pub cancel_live : (x : ⊤) → a ≡ Ok x → (r : Answer) → r ≡ live_answer file held id → r ≡ cancel_answer file held id
   unfolding cancel_answer
-  cancel_live r z e = e ∙ go (right_id id) refl
+  cancel_live x is r e = e ∙ go (right_id id) (sym (ap answered is) ∙ ea)
     where
-      go : (t : Bool) → right_id id ≡ t → live_answer file held id ≡ cond t (live_answer file held id) (answer 1 1)
-      go true q = refl
-      go false q = absurd (let w : ◌≡◌ {A = ℕ} 1 0 = sym (ap (λ (x : Answer). x.code) ea ∙ rw q) ∙ z in omega arith)
+      go : (t : Bool) → accepted ≡ cond t accepted (answer 1 1) → live_answer file held id ≡ cond t (live_answer file held id) (answer 1 1)
+      go true h = refl
+      go false h = absurd (let w : ◌≡◌ {A = ℕ} 0 1 = ap (λ (y : Answer). y.code) h in omega (arith, w))
 
-pub action_add : (known : Known) (file body : List ℕ) (held : ℕ) (seen : Consignor) (kind : ℕ) (r : Answer) → kind ≡ 1 → r ≡ add_answer known file held seen body → r ≡ action_answer known file held seen kind body
+pub action_add : (known : Known) (file body : List ℕ) (held : ℕ) (seen : Option Consignor) (kind : ℕ) (r : Answer) → kind ≡ 1 → r ≡ add_answer known file held seen body → r ≡ action_answer known file held seen kind body
 unfolding action_answer
-action_add known file body held seen kind r k e = rw (eq-eqb kind 1 k) e
+action_add known file body held seen kind r k e = rw k e
 
-pub action_amend : (known : Known) (file body : List ℕ) (held : ℕ) (seen : Consignor) (kind : ℕ) (r : Answer) → (kind ≡ 1 → ⊥) → kind ≡ 3 → r ≡ amend_answer known file held body → r ≡ action_answer known file held seen kind body
+pub action_amend : (known : Known) (file body : List ℕ) (held : ℕ) (seen : Option Consignor) (kind : ℕ) (r : Answer) → kind ≡ 3 → r ≡ amend_answer known file held body → r ≡ action_answer known file held seen kind body
 unfolding action_answer
-action_amend known file body held seen kind r n k e = rw (ne_eqb kind 1 n, eq-eqb kind 3 k) e
+action_amend known file body held seen kind r k e = rw k e
 
-pub action_cancel : (known : Known) (file body : List ℕ) (held : ℕ) (seen : Consignor) (kind : ℕ) (r : Answer) → (kind ≡ 1 → ⊥) → (kind ≡ 3 → ⊥) → r ≡ cancel_answer file held body → r ≡ action_answer known file held seen kind body
+pub action_cancel : (known : Known) (file body : List ℕ) (held : ℕ) (seen : Option Consignor) (kind : ℕ) (r : Answer) → kind ≡ 2 → r ≡ cancel_answer file held body → r ≡ action_answer known file held seen kind body
 unfolding action_answer
-action_cancel known file body held seen kind r n m e = rw (ne_eqb kind 1 n, ne_eqb kind 3 m) e
+action_cancel known file body held seen kind r k e = rw k e
 
--- ---- write_line: the record's bytes from the front on
-pub copied_on : (s t : List ℕ) (i : ℕ) → i < length s → i < length t → set (take i t ++ drop i s) i (get_or t i 0) ≡ take (i + 1) t ++ drop (i + 1) s
-copied_on s t i p q =
-    let long : length (take i t) ≡ i = length-take-le i t (omega arith) in
-    rw (add-one, drop-cons s i 0, take-suc t i 0, set_at (take i t)) (sym (append_snoc (take i t) (get_or t i 0) (drop (suc i) s)))
-
-pub line_written : (s t u : List ℕ) → length t ≡ 399 → length s ≡ 401 → u ≡ take 399 t ++ drop 399 s → set (set u 399 13) 400 10 ≡ line_of t
-line_written s t u lt ls e =
-    let two : drop 399 s ≡ get_or (drop 399 s) 0 0 ∷ get_or (drop 1 (drop 399 s)) 0 0 ∷ [] = spelled 2 (drop 399 s) (rw length-drop (omega arith)) in
-    let y : ℕ = get_or (drop 1 (drop 399 s)) 0 0 in
-    let whole : u ≡ t ++ get_or (drop 399 s) 0 0 ∷ y ∷ [] = e ∙ rw (take_all 399 t (omega arith), two) in
-    let first : set u 399 13 ≡ (t ++ 13 ∷ []) ++ y ∷ [] = rw whole (set_at t (get_or (drop 399 s) 0 0) (y ∷ []) 13 399 lt ∙ sym (append_assoc t (13 ∷ []) (y ∷ []))) in
-    let front : length (t ++ 13 ∷ []) ≡ 400 = simp length-append (omega arith) in
-    rw first (set_at (t ++ 13 ∷ []) y [] 10 400 front ∙ append_assoc t (13 ∷ []) (10 ∷ []))
-
-pub line_put : (file line rec : List ℕ) (k : ℕ) → (k ≤ 999) × (k * 401 + 401 ≤ length file) × (length rec ≡ 399) → line ≡ line_of rec
-    → put_mid (k * 401) (k * 401 + 401 - k * 401) file line ≡ with_line file k rec
-line_put file line rec k pre e =
-    let wide : length (line_of rec) ≡ 401 = simp length-append (omega arith) in
-    put_is (k * 401) (k * 401 + 401) file line (omega arith) pre.1 ∙ rw (e, wide)
+-- ---- write_line
+pub line_written : (line rec front end : List ℕ) → length rec ≡ 399 → length line ≡ 401 → front ≡ rec → end ≡ 13 ∷ 10 ∷ []
+    → put_mid 399 (length (front ++ drop 399 line) - 399) (front ++ drop 399 line) end ≡ line_of rec
+line_written line rec front end lr ll ef ee =
+    let whole = rec ++ drop 399 line in
+    let long : length whole ≡ 401 = omega (arith, length-append rec (drop 399 line), length-drop 399 line, lr, ll) in
+    let none : drop (length whole) whole ≡ [] = drop_of_length-le whole {i = length whole} (omega arith) in
+    rw (ef, ee) (put_is 399 (length whole) whole (13 ∷ 10 ∷ []) (omega (arith, long)) (omega arith) ∙ rw (none, take_at rec (drop 399 line) 399 lr))

@@ -13,6 +13,8 @@ use mir.Val.{Fits}
 use lib.Dec.{eqb}
 use lib.ListN.{length, take, drop, length-append}
 use lib.Seq.{take-append_seam, drop-append_seam, take-take, take-add}
+use Rattle.std.specs.Prelude.{Option, IsSome}
+use Rattle.batch.specs.declared.entries.Kind.{Kind}
 use Rattle.psc.specs.Table.{Known}
 use Rattle.text.proofs.Booleans.{clash}
 use Rattle.posting.specs.Bounds.{Small}
@@ -26,7 +28,7 @@ use Rattle.batch.specs.Records.{id_of, replaced_by, cancelled_for, records_after
 use Rattle.batch.specs.Rules.{posted, is_present, action_rule, in_turn}
 use Rattle.batch.specs.Batch.{Batch, batch_of, counts_of, State, zero_filled, made, without_latest, Stands}
 use Rattle.batch.specs.Places.{record_number, place_of, with_line, amounts_replaced}
-use Rattle.batch.specs.Entries.{kind_at}
+use Rattle.batch.specs.Entries.{number_of_found, kind_at}
 use Rattle.batch.specs.Test.{record_from, EntryAt}
 use Rattle.batch.specs.Undoing.{without_line, with_blank, one_live_less, one_revived, carried_from, Entries, RecordBefore, Holding, Added, AdditionOff, Sought, CancellationOff, Amended, AmendmentOff, Undoable, TakenBack}
 use Rattle.batch.proofs.Rows.{length_last, length_map}
@@ -39,7 +41,8 @@ use Rattle.batch.proofs.Reading.{read_exactly}
 use Rattle.batch.proofs.StateWays.{lengths_bounded}
 use Rattle.batch.proofs.Made.{records_last, entries_last, entry_long, accepted_if, Fits as Holds, turns_fit, turns_front_behind}
 use Rattle.batch.proofs.Walks.{without_latest_lem, turn_at, used_bytes, used_long, made_file}
-use Rattle.batch.proofs.StepWays.{kind_read, body_read}
+use Rattle.batch.proofs.StepWays.{kind_read, body_read, kind_found}
+use Rattle.batch.proofs.Heads.{kind_some}
 use Rattle.batch.proofs.UndoWays.{entry_wide, id_is}
 use Rattle.batch.proofs.TakingBack.{line_off, live_off, struck_there, status_off, revived_off, Carried, before_there, before_long, line_back, amounts_back, carried_all}
 
@@ -329,6 +332,11 @@ module _ (file journal : List ℕ) (c : Counts) (last : ℕ) (pre : Undoable fil
       let l = k.latest in
       omega (arith, l.entry.within, entry_wide k.act l.entry.size, l.within)
 
+  pub back_kind : (r : Option Kind) → number_of_found r ≡ kind_at journal c.used last → IsSome r
+  back_kind r er =
+      let k = latest_of file journal c last pre in
+      kind_found r (λ z. kind_some k.act (sym (kind_read journal c.used last k.latest.within k.act k.latest.entry) ∙ sym er ∙ z))
+
   module _ (kind : ℕ) (ek : kind ≡ kind_at journal c.used last) where
     which : Which pre.known file journal c last kind
     which = let k = latest_of file journal c last pre in go k.act k.latest
@@ -378,13 +386,13 @@ module _ (file journal : List ℕ) (c : Counts) (last : ℕ) (pre : Undoable fil
         go (cancelled e front id l) = cancelled_back file journal c last front id l r file' o
         go (amended e front rec l) = absurd (omega (arith, k, e))
 
-    module _ (not1 : kind ≡ 1 → ⊥) (not2 : kind ≡ 2 → ⊥) where
+    module _ (k3 : kind ≡ 3) where
       pub before_asks : Entries journal last
       before_asks = go which
         where
           go : Which pre.known file journal c last kind → Entries journal last
-          go (added e front rec l) = absurd (not1 e)
-          go (cancelled e front id l) = absurd (not2 e)
+          go (added e front rec l) = absurd (omega (arith, k3, e))
+          go (cancelled e front id l) = absurd (omega (arith, k3, e))
           go (amended e front rec l) = front_entries file journal c last front rec l
 
       module _ (at : ℕ) (b : RecordBefore journal last (take (last + 4 + 13 - (last + 4)) (drop (last + 4) journal)) at) where
@@ -395,14 +403,14 @@ module _ (file journal : List ℕ) (c : Counts) (last : ℕ) (pre : Undoable fil
         amendment_asks = go which
           where
             go : Which pre.known file journal c last kind → Amended file c before
-            go (added e front rec l) = absurd (not1 e)
-            go (cancelled e front id l) = absurd (not2 e)
+            go (added e front rec l) = absurd (omega (arith, k3, e))
+            go (cancelled e front id l) = absurd (omega (arith, k3, e))
             go (amended e front rec l) = amended_sought file journal c last front rec l at b
 
         pub amendment_done : (r : Counts) (file' : List ℕ) → AmendmentOff file c last before r file' → TakenBack file journal c last r file'
         amendment_done r file' o = go which
           where
             go : Which pre.known file journal c last kind → TakenBack file journal c last r file'
-            go (added e front rec l) = absurd (not1 e)
-            go (cancelled e front id l) = absurd (not2 e)
+            go (added e front rec l) = absurd (omega (arith, k3, e))
+            go (cancelled e front id l) = absurd (omega (arith, k3, e))
             go (amended e front rec l) = amended_back file journal c last front rec l at b r file' o

@@ -1,36 +1,29 @@
 -- Amounts and counts: each way out of the functions.
 -- Assumes nothing.
 use Prim.Native.Nat.{ℕ, ◌+◌, ◌-◌, ◌*◌, ◌≤◌, ◌<◌}
-use mathlib.Core.Path.{◌≡◌, ap, ap₂, ◌∙◌}
-use mathlib.Core.List.{List}
+use mathlib.Core.Path.{◌≡◌, sym, ap, ◌∙◌}
+use mathlib.Core.List.{List, []}
 use native.Mathlib.Nat.{add-zero, add-sub_cancel_left}
 use native.Mathlib.Omega.{arith}
-use borrow.Author.Tests.{ne_eqb}
 use lib.ListN.{take, drop}
+use Rattle.std.specs.Prelude.{Option, Some, unwrap_or}
 use Rattle.layout.specs.Layout.{field_of}
 use Rattle.fields.specs.declared.amounts.Hellers.{Hellers}
 use Rattle.posting.specs.declared.Totals.{Totals}
-use Rattle.posting.specs.declared.TotalsSum.{TotalsSum}
 use Rattle.posting.specs.Bounds.{Small}
-use Rattle.posting.specs.Calls.{sum_of_totals, total_or}
-use Rattle.posting.specs.File.{totals, amount_of, plus_totals}
+use Rattle.posting.specs.Calls.{sum_of_totals}
+use Rattle.posting.specs.File.{amount_of, plus_totals, record_at}
 use Rattle.posting.proofs.Amounts.{Light, small_sum}
 use Rattle.batch.specs.declared.Counts.{Counts}
-use Rattle.batch.specs.Places.{record_number, one_live_more, one_cancelled, amounts_replaced}
-use Rattle.batch.specs.Entries.{body_length}
-use Rattle.batch.specs.Batch.{counts_of}
-use Rattle.batch.specs.Work.{counts_after}
-
-abbrev pub counts_by : ℕ → ℕ → Hellers → Hellers → ℕ → ℕ → Counts
-counts_by l k d p held used = counts_of (record { live = l; cancelled = k; cash = d; price = p }) held used
-
-pub same_counts_lem : (l k held used d p : ℕ) (d' p' : Hellers) → d'.0 ≡ d → p'.0 ≡ p → counts_by l k d' p' held used ≡ counts_of (totals l k d p) held used
-same_counts_lem l k held used d p d' p' ed ep = ap₂ (λ (x y : ℕ). counts_of (totals l k x y) held used) ed ep
+use Rattle.batch.specs.Places.{number_of_place, record_number, place_of, action_held, one_live_more, one_cancelled, amounts_replaced}
+use Rattle.batch.specs.Batch.{batch_of, counts_of}
+use Rattle.batch.specs.Work.{action_totals}
+use Rattle.batch.proofs.JournalWays.{place_is}
 
 -- what was passed on is small, so the sum fits
-pub live_more : (c : Counts) (cash price : Hellers) (s : TotalsSum) (r : Totals)
+pub live_more : (c : Counts) (cash price : Hellers) (s : Option Totals) (r : Totals)
     → (Small c.totals) × (c.held ≤ 999) × (cash.0 < 100000000000) × (price.0 < 100000000000)
-    → s ≡ sum_of_totals c.totals (record { live = 1; cancelled = 0; cash = cash; price = price }) → r ≡ total_or s c.totals
+    → s ≡ sum_of_totals c.totals (record { live = 1; cancelled = 0; cash = cash; price = price }) → r ≡ unwrap_or s c.totals
     → counts_of r (c.held + 1) c.used ≡ counts_of (one_live_more c.totals cash.0 price.0) (c.held + 1) c.used
 live_more c cash price s r pre es er =
     let one : Totals = record { live = 1; cancelled = 0; cash = cash; price = price } in
@@ -38,14 +31,10 @@ live_more c cash price s r pre es er =
     let sum : r ≡ plus_totals c.totals one = small_sum c.totals one r s pre.0 light es er in
     ap (λ (t : Totals). counts_of t (c.held + 1) c.used) (sum ∙ rw (add-zero c.totals.cancelled))
 
-pub cancelled_more : (c : Counts) (cash price d' p' : Hellers) (l : ℕ) → l ≡ c.totals.live - 1 → d'.0 ≡ c.totals.cash.0 - cash.0 → p'.0 ≡ c.totals.price.0 - price.0
-    → counts_by l (c.totals.cancelled + 1) d' p' c.held c.used ≡ counts_of (one_cancelled c.totals cash.0 price.0) c.held c.used
-cancelled_more c cash price d' p' l el ed ep = rw el (same_counts_lem (c.totals.live - 1) (c.totals.cancelled + 1) c.held c.used _ _ d' p' ed ep)
-
-pub replaced : (c : Counts) (old_cash old_price cash price d p : Hellers) (s : TotalsSum) (r : Totals)
+pub replaced : (c : Counts) (old_cash old_price cash price d p : Hellers) (s : Option Totals) (r : Totals)
     → (Small c.totals) × (cash.0 < 100000000000) × (price.0 < 100000000000) → d.0 ≡ c.totals.cash.0 - old_cash.0 → p.0 ≡ c.totals.price.0 - old_price.0
     → s ≡ sum_of_totals (record { live = c.totals.live; cancelled = c.totals.cancelled; cash = d; price = p }) (record { live = 0; cancelled = 0; cash = cash; price = price })
-    → r ≡ total_or s (record { live = c.totals.live; cancelled = c.totals.cancelled; cash = d; price = p })
+    → r ≡ unwrap_or s (record { live = c.totals.live; cancelled = c.totals.cancelled; cash = d; price = p })
     → counts_of r c.held c.used ≡ counts_of (amounts_replaced c.totals old_cash.0 old_price.0 cash.0 price.0) c.held c.used
 replaced c old_cash old_price cash price d p s r pre ed ep es er =
     let rest : Totals = record { live = c.totals.live; cancelled = c.totals.cancelled; cash = d; price = p } in
@@ -55,32 +44,32 @@ replaced c old_cash old_price cash price d p s r pre ed ep es er =
     let sum : r ≡ plus_totals rest new = small_sum rest new r s small light es er in
     ap (λ (t : Totals). counts_of t c.held c.used) (sum ∙ rw (add-zero c.totals.live, add-zero c.totals.cancelled, ed, ep))
 
--- ---- counts_after
-pub grown_fits : (c m : Counts) (t : Totals) (h n : ℕ) → c.used + 403 < 2000000 → m ≡ counts_of t h c.used → n ≤ 403 → m.used + n < 2000000
-grown_fits c m t h n r e l = omega (arith, ap (λ (x : Counts). x.used) e)
-
+-- ---- the counts behind an action
 abbrev pub Amount : List ℕ → ℕ → Hellers → Type 0
 Amount rec n h = (h ≡ amount_of rec n) × (h.0 < 100000000000)
 
-module _ (file body : List ℕ) (c m out : Counts) (kind : ℕ) where
-  pub counted_add : (d p : Hellers) → kind ≡ 1 → Amount body 16 d → Amount body 17 p → m ≡ counts_of (one_live_more c.totals d.0 p.0) (c.held + 1) c.used
-      → out ≡ counts_of m.totals m.held (m.used + 403) → out ≡ counts_after file c kind body
-  unfolding counts_after
-  counted_add d p k ed ep em eo = eo ∙ rw (em, ed.0, ep.0, k)
+-- the lent record at a place
+abbrev pub lent_at : List ℕ → ℕ → List ℕ
+lent_at file k = take (k * 401 + 399 - k * 401) (drop (k * 401) file)
 
-  pub counted_amend : (d p d' p' : Hellers) (id : List ℕ) (n : ℕ) → (kind ≡ 1 → ⊥) → kind ≡ 3 → id ≡ field_of body 1 → (n ≡ record_number file id c.held) × (n ≤ c.held)
-      → Amount (take ((n - 1) * 401 + 399 - (n - 1) * 401) (drop ((n - 1) * 401) file)) 16 d → Amount (take ((n - 1) * 401 + 399 - (n - 1) * 401) (drop ((n - 1) * 401) file)) 17 p
-      → Amount body 16 d' → Amount body 17 p' → m ≡ counts_of (amounts_replaced c.totals d.0 p.0 d'.0 p'.0) c.held c.used
-      → out ≡ counts_of m.totals m.held (m.used + 403) → out ≡ counts_after file c kind body
-  unfolding counts_after
-  counted_amend d p d' p' id n not1 k ei en ed ep ed' ep' em eo =
-      let place : n ≡ record_number file (field_of body 1) c.held = en.0 ∙ ap (λ (x : List ℕ). record_number file x c.held) ei in
-      eo ∙ rw (em, ed.0, ep.0, ed'.0, ep'.0, add-sub_cancel_left, place, k)
+pub lent_is : (file : List ℕ) (k : ℕ) → lent_at file k ≡ record_at file k
+lent_is file k = ap (λ (w : ℕ). take w (drop (k * 401) file)) (add-sub_cancel_left (k * 401) 399)
 
-  pub counted_cancel : (d p : Hellers) (n b : ℕ) → (kind ≡ 1 → ⊥) → (kind ≡ 3 → ⊥) → (n ≡ record_number file body c.held) × (n ≤ c.held)
-      → Amount (take ((n - 1) * 401 + 399 - (n - 1) * 401) (drop ((n - 1) * 401) file)) 16 d → Amount (take ((n - 1) * 401 + 399 - (n - 1) * 401) (drop ((n - 1) * 401) file)) 17 p
-      → m ≡ counts_of (one_cancelled c.totals d.0 p.0) c.held c.used → (b ≡ body_length kind) × (13 ≤ b) × (b ≤ 399)
-      → out ≡ counts_of m.totals m.held (m.used + (b + 4)) → out ≡ counts_after file c kind body
-  unfolding counts_after
-  counted_cancel d p n b not1 not3 en ed ep em eb eo =
-      eo ∙ rw (em, ed.0, ep.0, add-sub_cancel_left, en.0, eb.0, ne_eqb kind 1 not1, ne_eqb kind 3 not3)
+module _ (file body : List ℕ) (c out : Counts) (kind : ℕ) where
+  abbrev wanted : Counts
+  wanted = counts_of (action_totals (batch_of file [] c) kind body) (action_held c.held kind) c.used
+
+  pub counted_add : (d p : Hellers) → kind ≡ 1 → Amount body 16 d → Amount body 17 p → out ≡ counts_of (one_live_more c.totals d.0 p.0) (c.held + 1) c.used → out ≡ wanted
+  counted_add d p k ed ep eo = eo ∙ rw (ed.0, ep.0, k)
+
+  module _ (id : List ℕ) (r : Option ℕ) (en : (number_of_place r ≡ record_number file id c.held) × (number_of_place r ≤ c.held)) (k : ℕ) (q : r ≡ Some k) where
+    at : lent_at file k ≡ record_at file (place_of file id c.held)
+    at = lent_is file k ∙ ap (record_at file) (sym (place_is file [] [] id c.held 0 r en k q))
+
+    pub counted_amend : (d p d' p' : Hellers) → kind ≡ 3 → id ≡ field_of body 1 → Amount (lent_at file k) 16 d → Amount (lent_at file k) 17 p → Amount body 16 d' → Amount body 17 p'
+        → out ≡ counts_of (amounts_replaced c.totals d.0 p.0 d'.0 p'.0) c.held c.used → out ≡ wanted
+    counted_amend d p d' p' kk ei ed ep ed' ep' eo = eo ∙ rw (ed.0, ep.0, ed'.0, ep'.0, at, ei, kk)
+
+    pub counted_cancel : (d p : Hellers) → kind ≡ 2 → id ≡ body → Amount (lent_at file k) 16 d → Amount (lent_at file k) 17 p
+        → out ≡ counts_of (one_cancelled c.totals d.0 p.0) c.held c.used → out ≡ wanted
+    counted_cancel d p kk ei ed ep eo = eo ∙ rw (ed.0, ep.0, at, ei, kk)

@@ -10,6 +10,7 @@ use lib.Dec.{eqb, leb}
 use lib.ListN.{length, length-append}
 use Rattle.psc.specs.Table.{Known}
 use Rattle.text.specs.Lists.{overlay}
+use Rattle.std.specs.Prelude.{Option}
 use Rattle.ident.specs.declared.consignor.Consignor.{Consignor}
 use Rattle.record.specs.Consignors.{first_of}
 use Rattle.posting.specs.declared.Totals.{Totals}
@@ -81,7 +82,7 @@ module _ (known : Known) (b : Batch) (s : State) (st : Stands (posted known) b s
   fits_so : Fits known (file_length b) (journal_length b) s.actions
   fits_so = turns_fit (posted known) (posted_fit known) (file_length b) (journal_length b) s.actions st.turns
 
-  pub entry_ruled : (seen : Consignor) → seen ≡ first_of (records_of s.actions) → entry_answer known b seen (number_of a) (body_of a) ≡ rule_behind (posted known) (file_length b) (journal_length b) s.actions a
+  pub entry_ruled : (seen : Option Consignor) → seen ≡ first_of (records_of s.actions) → entry_answer known b seen (number_of a) (body_of a) ≡ rule_behind (posted known) (file_length b) (journal_length b) s.actions a
   entry_ruled seen first = (λ i. entry_answer known (st.is i) (first i) (number_of a) (body_of a)) ∙ made_ruled (file_length b) (journal_length b) s.actions fits_so a
 
   pub entry_enters : (rule_behind (posted known) (file_length b) (journal_length b) s.actions a).code ≡ 0 → entered b (number_of a) (body_of a) ≡ made (file_length b) (journal_length b) (with s a)

@@ -1,30 +1,26 @@
--- The guard of the calls, and writing entries: each way out of the functions.
+-- The guard of the calls: each way out.
 -- Assumes nothing.
-use Prim.Native.Nat.{ℕ, ◌+◌, ◌-◌, ◌≤◌}
-use mathlib.Core.Path.{◌≡◌, refl, sym, ◌∙◌, subst}
-use mathlib.Core.Bool.{Bool, true, false, cond, not}
-use mathlib.Core.Option.{Option, none, some}
-use mathlib.Core.List.{List, [], ◌∷◌, ◌++◌, append-nil}
-use native.Mathlib.Omega.{arith}
-use borrow.Author.Tests.{not-true, not-false}
-use borrow.Rule.Slice.PartMut.{put_mid}
-use lib.Dec.{eqb}
-use lib.ListN.{length, get_or, take, drop, set, drop_of_length-le}
-use lib.Seq.{take_all, length-take-le}
+use Prim.Native.Nat.{ℕ}
+use mathlib.Core.Path.{◌≡◌, refl, sym, ap, ◌∙◌, subst}
+use mathlib.Core.Bool.{Bool, true, false}
+use mathlib.Core.Option as Math
+use mathlib.Core.List.{List}
+use lib.ListN.{length}
+use Rattle.std.specs.Prelude.{Option, Some, None}
+use Rattle.std.specs.Prelude.{Result, Ok, Err, ok_or}
+use Rattle.text.specs.declared.Refusal.{Refusal}
+use Rattle.text.specs.Answers.{answer_of}
 use Rattle.psc.specs.Table.{right_table, wrong_table, Known, holds}
 use Rattle.psc.specs.Search.{found}
 use Rattle.psc.proofs.SearchLaws.{found_is_holds}
-use Rattle.text.specs.Answers.{answer, accepted}
-use Rattle.text.specs.Lists.{overlay}
-use Rattle.text.proofs.Lists.{spelled, put_is}
+use Rattle.text.specs.Answers.{answer}
+use Rattle.text.proofs.Booleans.{clash}
 use Rattle.batch.specs.declared.Counts.{Counts}
-use Rattle.batch.specs.declared.Gate.{Gate}
 use Rattle.batch.specs.declared.test.Finding.{Finding}
-use Rattle.batch.specs.Entries.{head, entry}
 use Rattle.batch.specs.Rules.{Verdict, posted}
 use Rattle.batch.specs.Batch.{Batch, batch_of, right_lengths, file_length, journal_length, Call, Open, Add, Amend, Cancel, Undo, State, stands_in, Stands, answer_to, answer_under}
 use Rattle.batch.specs.Test.{Tested}
-use Rattle.batch.specs.Work.{refused_at, Guarded}
+use Rattle.batch.specs.Work.{Passed, Guarded}
 use Rattle.batch.proofs.Standing.{stands_exactly}
 use Rattle.batch.proofs.LentTable.{right_answers, none_met}
 
@@ -47,14 +43,14 @@ module _ (psc : List ℕ) (b : Batch) where
   table_answer good w (Cancel id) other = rw (good, w)
   table_answer good w Undo other = rw (good, w)
 
-nothing_stands : (v : Verdict) (b : Batch) → ((s : State) → Stands v b s → ⊥) → stands_in v b ≡ none
+nothing_stands : (v : Verdict) (b : Batch) → ((s : State) → Stands v b s → ⊥) → stands_in v b ≡ Math.none
 nothing_stands v b never = go (stands_in v b) refl
   where
-    go : (o : Option State) → stands_in v b ≡ o → o ≡ none
-    go none e = refl
-    go (some s) e = absurd (never s ((stands_exactly v b s).0 e))
+    go : (o : Math.Option State) → stands_in v b ≡ o → o ≡ Math.none
+    go Math.none e = refl
+    go (Math.some s) e = absurd (never s ((stands_exactly v b s).0 e))
 
-none_answer : (v : Verdict) (b : Batch) → right_lengths (file_length b) (journal_length b) ≡ true → stands_in v b ≡ none → (call : Call) → (call ≡ Open → ⊥) → answer_to v b call ≡ answer 237 0
+none_answer : (v : Verdict) (b : Batch) → right_lengths (file_length b) (journal_length b) ≡ true → stands_in v b ≡ Math.none → (call : Call) → (call ≡ Open → ⊥) → answer_to v b call ≡ answer 237 0
 unfolding answer_to
 none_answer v b good e Open other = absurd (other refl)
 none_answer v b good e (Add rec) other = rw (good, e)
@@ -62,66 +58,73 @@ none_answer v b good e (Amend rec) other = rw (good, e)
 none_answer v b good e (Cancel id) other = rw (good, e)
 none_answer v b good e Undo other = rw (good, e)
 
-module _ (psc file journal : List ℕ) (c : Counts) (r : Bool) (e : r ≡ right_lengths (length file) (length journal)) where
-  pub guard_short : (g : Gate) → not r ≡ true → g ≡ refused_at (answer 235 0) → Guarded psc (batch_of file journal c) g
-  guard_short g n eg = rw eg record {
-    if_so = λ z. absurd (omega (arith, z));
-    if_not = λ z. short_answer psc (batch_of file journal c) (sym e ∙ not-true r n);
+-- a result tells which it is
+refusal_or : Refusal → Result Finding Refusal → Refusal
+refusal_or d (Ok f) = d
+refusal_or d (Err e) = e
+
+finding_or : Finding → Result Finding Refusal → Finding
+finding_or d (Ok f) = f
+finding_or d (Err e) = d
+
+is_found : Result Finding Refusal → Bool
+is_found (Ok f) = true
+is_found (Err e) = false
+
+err_ok : (e : Refusal) (f : Finding) → ◌≡◌ {A = Result Finding Refusal} (Err e) (Ok f) → ⊥
+unfolding is_found
+err_ok e f q = clash (ap is_found q) refl
+
+err_once : (e d : Refusal) → ◌≡◌ {A = Result Finding Refusal} (Err e) (Err d) → e ≡ d
+unfolding refusal_or
+err_once e d q = ap (refusal_or e) q
+
+ok_once : (f g : Finding) → ◌≡◌ {A = Result Finding Refusal} (Ok f) (Ok g) → f ≡ g
+unfolding finding_or
+ok_once f g q = ap (finding_or f) q
+
+module _ (psc file journal : List ℕ) (c : Counts) where
+  abbrev here : Batch
+  here = batch_of file journal c
+
+  met : (e : Refusal) → ((call : Call) → (call ≡ Open → ⊥) → answer_under psc here call ≡ answer_of e) → Guarded psc here (Err e)
+  met e answers = record {
+    if_so = λ f q. absurd (err_ok e f q);
+    if_not = λ d q call other. answers call other ∙ ap answer_of (err_once e d q);
   }
 
-  module _ (n : not r ≡ false) where
-    pub guard_long : right_lengths (length file) (length journal) ≡ true
-    guard_long = sym e ∙ not-false r n
+  module _ (r : Bool) (e : r ≡ right_lengths (length file) (length journal)) where
+    pub guard_short : r ≡ false → Guarded psc here (Err Refusal.WrongBuffers)
+    guard_short n = met Refusal.WrongBuffers (short_answer psc here (sym e ∙ n))
 
-    module _ (t : Bool) (et : t ≡ right_table psc) where
-      pub guard_table : (g : Gate) → not t ≡ true → g ≡ refused_at wrong_table → Guarded psc (batch_of file journal c) g
-      guard_table g w eg = rw eg record {
-        if_so = λ z. absurd (omega (arith, z));
-        if_not = λ z. table_answer psc (batch_of file journal c) guard_long (sym et ∙ not-true t w);
-      }
+    module _ (n : r ≡ true) where
+      pub guard_long : right_lengths (length file) (length journal) ≡ true
+      guard_long = sym e ∙ n
 
-      module _ (w : not t ≡ false) (f : Finding) (d : Tested (found psc) (batch_of file journal c) f) where
-        right : right_table psc ≡ true
-        right = sym et ∙ not-false t w
+      module _ (t : Bool) (et : t ≡ right_table psc) where
+        pub guard_table : t ≡ false → Guarded psc here (Err Refusal.WrongTable)
+        guard_table w = met Refusal.WrongTable (table_answer psc here guard_long (sym et ∙ w))
 
-        pub guard_nothing : (g : Gate) → not f.stands ≡ true → g ≡ refused_at (answer 237 0) → Guarded psc (batch_of file journal c) g
-        guard_nothing g x eg =
-            let b = batch_of file journal c in
-            let never : (s : State) → Stands (posted (holds psc)) b s → ⊥ =
-            λ s st. d.if_not (not-true f.stands x) s (subst (λ (k : Known). Stands (posted k) b s) (sym (found_is_holds psc right)) st) in
-            rw eg
-            record {
-              if_so = λ z. absurd (omega (arith, z));
-              if_not = λ z call other. right_answers psc b call (none_met psc b call right) ∙ none_answer (posted (holds psc)) b guard_long (nothing_stands (posted (holds psc)) b never) call other;
-            }
+        module _ (w : t ≡ true) (f : Option Finding) (d : Tested (found psc) here f) where
+          right : right_table psc ≡ true
+          right = sym et ∙ w
 
-        pub guard_found : not f.stands ≡ false → Guarded psc (batch_of file journal c) (record { answer = accepted; seen = f.seen; last = f.last })
-        guard_found x = record { if_so = λ z. record { right = right; found = d.if_so (not-false f.stands x) }; if_not = λ z. absurd (z refl) }
+          guard_nothing : f ≡ None → Guarded psc here (Err Refusal.NothingStands)
+          guard_nothing x =
+              let never : (s : State) → Stands (posted (holds psc)) here s → ⊥ =
+              λ s st. d.if_not x s (subst (λ (k : Known). Stands (posted k) here s) (sym (found_is_holds psc right)) st) in
+              met Refusal.NothingStands
+              (λ call other. right_answers psc here call (none_met psc here call right) ∙ none_answer (posted (holds psc)) here guard_long (nothing_stands (posted (holds psc)) here never) call other)
 
--- ---- writing entries
-pub copied_all : (s t u : List ℕ) (i : ℕ) → length s ≡ length t → length t ≤ i → i ≤ length t → u ≡ take i t ++ drop i s → u ≡ t
-copied_all s t u i e h l g = g ∙ rw (take_all i t h, drop_of_length-le s {i = i} (omega arith)) (append-nil t)
+          guard_found : (g : Finding) → f ≡ Some g → Guarded psc here (Ok g)
+          guard_found g x = record {
+            if_so = λ h q. subst (λ (y : Finding). Passed psc here y.seen y.last) (ok_once g h q) record { right = right; found = d.if_so g x };
+            if_not = λ e q. absurd (err_ok e g (sym q));
+          }
 
-pub entry_written : (part made body : List ℕ) (kind low high : ℕ) → length part ≡ length body + 4 → made ≡ body → low ≡ get_or (head kind) 0 0 → high ≡ get_or (head kind) 1 0
-    → set (set (set (set (put_mid 4 (length part - 4) part made) 0 low) 1 high) 2 kind) 3 0 ≡ entry kind body
-entry_written part made body kind low high e em el eh =
-    let front : take 4 part ≡ get_or (take 4 part) 0 0 ∷ get_or (drop 1 (take 4 part)) 0 0 ∷ get_or (drop 1 (drop 1 (take 4 part))) 0 0 ∷ get_or (drop 1 (drop 1 (drop 1 (take 4 part)))) 0 0 ∷ [] = spelled 4 (take 4 part) (length-take-le 4 part (omega arith)) in
-    let none : drop (length part) part ≡ [] = drop_of_length-le part {i = length part} (omega arith) in
-    let whole : put_mid 4 (length part - 4) part made ≡ take 4 part ++ (body ++ []) = put_is 4 (length part) part made (omega arith) (omega arith) ∙ rw (em, none) in
-    rw (whole, append-nil body, front, el, eh) (go (eqb kind 2))
-  where
-    go : (t : Bool) → get_or (cond t (17 ∷ 0 ∷ kind ∷ 0 ∷ []) (147 ∷ 1 ∷ kind ∷ 0 ∷ [])) 0 0 ∷ get_or (cond t (17 ∷ 0 ∷ kind ∷ 0 ∷ []) (147 ∷ 1 ∷ kind ∷ 0 ∷ [])) 1 0 ∷ kind ∷ 0 ∷ body ≡ cond t (17 ∷ 0 ∷ kind ∷ 0 ∷ []) (147 ∷ 1 ∷ kind ∷ 0 ∷ []) ++ body
-    go true = refl
-    go false = refl
-
-pub length_entry : (kind : ℕ) (body : List ℕ) → length (entry kind body) ≡ length body + 4
-length_entry kind body = go (eqb kind 2)
-  where
-    go : (t : Bool) → length (cond t (17 ∷ 0 ∷ kind ∷ 0 ∷ []) (147 ∷ 1 ∷ kind ∷ 0 ∷ []) ++ body) ≡ length body + 4
-    go true = omega arith
-    go false = omega arith
-
-pub entry_put : (journal made body : List ℕ) (at kind : ℕ) → (length body ≤ 399) × (at + (length body + 4) ≤ length journal) → made ≡ entry kind body
-    → put_mid at (at + (length body + 4) - at) journal made ≡ overlay journal at (entry kind body)
-entry_put journal made body at kind pre e =
-    put_is at (at + (length body + 4)) journal made (omega arith) pre.1 ∙ rw (e, length_entry kind body)
+          pub guarded : (g : Result Finding Refusal) → g ≡ ok_or f Refusal.NothingStands → Guarded psc here g
+          guarded g eg = subst (Guarded psc here) (sym eg) (go f refl)
+            where
+              go : (o : Option Finding) → f ≡ o → Guarded psc here (ok_or o Refusal.NothingStands)
+              go None q = guard_nothing q
+              go (Some x) q = guard_found x q

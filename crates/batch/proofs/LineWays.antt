@@ -180,14 +180,14 @@ module _ (file journal : List ℕ) (held : ℕ) (marks : List ℕ) (pre : Marked
         subst (λ (w : ℕ). LineSame (take w (drop (k * 401) file)) (record_from journal (get_or marks k 0 / 2)) (odd (get_or marks k 0)) r) (add-sub_cancel_left (k * 401) 401)
         (subst (λ (w : ℕ). LineSame (take (k * 401 + 401 - k * 401) (drop (k * 401) file)) (take w (drop from journal)) (odd (get_or marks k 0)) r) (add-sub_cancel_left from 399) s)
 
-    pub lines_fail : not r ≡ true → LinesSame file journal held marks false
-    lines_fail n = record { if_so = λ q. absurd (clash q refl); if_not = λ q all. here.if_not (not-true r n) (all k low) }
+    pub lines_fail : r ≡ false → LinesSame file journal held marks false
+    lines_fail n = record { if_so = λ q. absurd (clash q refl); if_not = λ q all. here.if_not n (all k low) }
 
-    pub lines_on : not r ≡ false → ((i : ℕ) → i < k → LineAt file journal marks i) → (i : ℕ) → i < k + 1 → LineAt file journal marks i
+    pub lines_on : r ≡ true → ((i : ℕ) → i < k → LineAt file journal marks i) → (i : ℕ) → i < k + 1 → LineAt file journal marks i
     lines_on n each i h = go (eqb i k) refl
       where
         go : (t : Bool) → eqb i k ≡ t → LineAt file journal marks i
-        go true e = subst (LineAt file journal marks) (sym (eqb-true i k e)) (here.if_so (not-false r n))
+        go true e = subst (LineAt file journal marks) (sym (eqb-true i k e)) (here.if_so n)
         go false e = each i (omega (arith, h, eqb-false i k e))
 
 pub lines_end : (file journal : List ℕ) (held : ℕ) (marks : List ℕ) (k : ℕ) → held ≤ k → ((i : ℕ) → i < k → LineAt file journal marks i) → LinesSame file journal held marks true

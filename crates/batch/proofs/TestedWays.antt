@@ -2,17 +2,17 @@
 -- Assumes nothing.
 use Prim.Native.Nat.{ℕ, zero, suc, ◌+◌, ◌-◌, ◌*◌, ◌/◌, ◌≤◌, ◌<◌}
 use mathlib.Core.Path.{◌≡◌, refl, sym, ap, ◌∙◌, subst}
-use mathlib.Core.Bool.{Bool, true, false, not}
+use mathlib.Core.Bool.{Bool, true, false}
 use mathlib.Core.List.{List}
 use native.Mathlib.Omega.{arith}
-use borrow.Author.Tests.{not-true, not-false, eq-eqb}
 use mir.Syntax.{w64}
 use mir.Val.{Fits}
 use lib.ListN.{length, get_or, take, drop, length-drop, replicate, length-replicate}
 use lib.Seq.{take_all}
+use Rattle.std.specs.Prelude.{Option, Some, None}
+use Rattle.std.proofs.lemmas.Option.{none-some, same_Some}
 use Rattle.psc.specs.Table.{Known}
 use Rattle.text.specs.Bytes.{every, is_zero}
-use Rattle.text.proofs.Booleans.{clash}
 use Rattle.posting.specs.declared.Totals.{Totals}
 use Rattle.posting.specs.File.{totals_over}
 use Rattle.index.proofs.Slots.{indexed_none}
@@ -20,19 +20,16 @@ use Rattle.batch.specs.declared.Counts.{Counts}
 use Rattle.batch.specs.declared.test.Reached.{Reached}
 use Rattle.batch.specs.declared.test.Finding.{Finding}
 use Rattle.batch.specs.Rules.{posted}
-use Rattle.batch.specs.Batch.{Batch, batch_of, right_lengths, State, same_totals, Stands}
-use Rattle.batch.specs.Test.{Walked, WalkedTo, Fresh, Marked, LinesSame, Tested, ToTest}
-use Rattle.batch.proofs.StateWays.{totals_same, lengths_bounded}
+use Rattle.batch.specs.Batch.{Batch, batch_of, right_lengths, State, Stands}
+use Rattle.batch.specs.Test.{Found, Walked, WalkedTo, Fresh, Marked, LinesSame, Tested, ToTest}
+use Rattle.batch.proofs.StateWays.{lengths_bounded}
 use Rattle.batch.proofs.Verdicts.{posted_fit}
 use Rattle.batch.proofs.Made.{turns_fit}
 use Rattle.batch.proofs.Walks.{used_long}
 use Rattle.batch.proofs.Tests.{marked_so, held_wrong, lines_wrong, rest_wrong, journal_wrong, test_passes, totals_wrong}
 
-none_stands : {known : Known} (b : Batch) (f : Finding) → f.stands ≡ false → ((s : State) → Stands (posted known) b s → ⊥) → Tested known b f
-none_stands b f e none = record { if_so = λ q. absurd (clash q e); if_not = λ q. none }
-
-totals_alike : (s t : Totals) → s ≡ t → same_totals s t ≡ true
-totals_alike s t e = rw e (rw (eq-eqb t.live t.live refl, eq-eqb t.cancelled t.cancelled refl, eq-eqb t.cash.0 t.cash.0 refl, eq-eqb t.price.0 t.price.0 refl))
+none_stands : {known : Known} (b : Batch) → ((s : State) → Stands (posted known) b s → ⊥) → Tested known b None
+none_stands b none = record { if_so = λ f q. absurd (none-some f q); if_not = λ q. none }
 
 module _ (file journal : List ℕ) (c : Counts) (marks table : List ℕ) (pre : ToTest file journal marks table) where
   abbrev b : Batch
@@ -41,29 +38,29 @@ module _ (file journal : List ℕ) (c : Counts) (marks table : List ℕ) (pre : 
   bounds : (length file ≤ 400599) × (length journal ≤ 1048576)
   bounds = lengths_bounded (length file) (length journal) pre.lengths
 
-  pub test_short : (known : Known) (f : Finding) → f.stands ≡ false → length journal < c.used → Tested known b f
-  test_short known f e h = none_stands b f e (λ s st. omega (arith, h, used_long file journal c s st, (turns_fit (posted known) (posted_fit known) (length file) (length journal) s.actions st.turns).room))
+  pub test_short : (known : Known) → length journal < c.used → Tested known b None
+  test_short known h = none_stands b (λ s st. omega (arith, h, used_long file journal c s st, (turns_fit (posted known) (posted_fit known) (length file) (length journal) s.actions st.turns).room))
 
   pub test_fresh : c.used ≤ length journal → Fresh file journal c.used marks table
   test_fresh h = record { marking = pre.marking; within = h; bounded = bounds.1 }
 
-  module _ (r : Reached) (marks' table' : List ℕ) {known : Known} (wt : WalkedTo known file journal c.used table r marks' table') where
-    pub test_stuck : (f : Finding) → f.stands ≡ false → not r.good ≡ true → Tested known b f
-    test_stuck f e n = none_stands b f e (λ s st. wt.if_not (not-true r.good n) c refl s st)
+  module _ (r : Option Reached) (marks' table' : List ℕ) {known : Known} (wt : WalkedTo known file journal c.used table r marks' table') where
+    pub test_stuck : r ≡ None → Tested known b None
+    test_stuck n = none_stands b (λ s st. wt.if_not n c refl s st)
 
-    module _ (walked : not r.good ≡ false) where
-      there : Walked known file journal r.held r.seen c.used r.last marks' table'
-      there = wt.if_so (not-false r.good walked)
+    module _ (to : Reached) (walked : r ≡ Some to) where
+      there : Walked known file journal to.held to.seen c.used to.last marks' table'
+      there = wt.if_so to walked
 
-      pub test_held : (f : Finding) → f.stands ≡ false → (r.held ≡ c.held → ⊥) → Tested known b f
-      test_held f e n = none_stands b f e (held_wrong file journal c r.held r.seen r.last marks' table' pre.lengths there n)
+      pub test_held : (to.held ≡ c.held → ⊥) → Tested known b None
+      test_held n = none_stands b (held_wrong file journal c to.held to.seen to.last marks' table' pre.lengths there n)
 
-      module _ (same : r.held ≡ c.held) where
-        w : Walked known file journal c.held r.seen c.used r.last marks' table'
-        w = subst (λ (h : ℕ). Walked known file journal h r.seen c.used r.last marks' table') same there
+      module _ (same : to.held ≡ c.held) where
+        w : Walked known file journal c.held to.seen c.used to.last marks' table'
+        w = subst (λ (h : ℕ). Walked known file journal h to.seen c.used to.last marks' table') same there
 
         pub test_marked : Marked file journal c.held marks'
-        test_marked = marked_so file journal c c.held r.seen r.last marks' table' pre.lengths w bounds.1
+        test_marked = marked_so file journal c c.held to.seen to.last marks' table' pre.lengths w bounds.1
 
         pub held_fits : Fits w64 (c.held * 401)
         held_fits = record { fits = omega (arith, w.marking.few) }
@@ -71,34 +68,41 @@ module _ (file journal : List ℕ) (c : Counts) (marks table : List ℕ) (pre : 
         pub held_inside : c.held * 401 ≤ length file
         held_inside = w.marking.places
 
-        pub held_few : c.held ≤ 999
-        held_few = w.marking.few
+        pub held_few : (c.held ≤ 999) × (c.held * 401 ≤ length file)
+        held_few = (w.marking.few, w.marking.places)
 
         module _ (ls : Bool) (l : LinesSame file journal c.held marks' ls) where
-          pub test_lines : (f : Finding) → f.stands ≡ false → not ls ≡ true → Tested known b f
-          test_lines f e n = none_stands b f e (lines_wrong file journal c c.held r.seen r.last marks' table' pre.lengths w (l.if_not (not-true ls n)))
+          pub test_lines : ls ≡ false → Tested known b None
+          test_lines n = none_stands b (lines_wrong file journal c c.held to.seen to.last marks' table' pre.lengths w (l.if_not n))
 
-          module _ (alike : not ls ≡ false) (z : Bool) (ez : z ≡ every is_zero (take (length file - c.held * 401) (drop (c.held * 401) file))) where
+          module _ (alike : ls ≡ true) (z : Bool) (ez : z ≡ every is_zero (take (length file - c.held * 401) (drop (c.held * 401) file))) where
             rest_is : every is_zero (drop (c.held * 401) file) ≡ z
             rest_is = ap (every is_zero) (sym (take_all (length file - c.held * 401) (drop (c.held * 401) file) (omega (arith, length-drop (c.held * 401) file)))) ∙ sym ez
 
-            pub test_rest : (f : Finding) → f.stands ≡ false → not z ≡ true → Tested known b f
-            test_rest f e n = none_stands b f e (rest_wrong file journal c c.held r.seen r.last marks' table' pre.lengths w (rest_is ∙ not-true z n))
+            pub test_rest : z ≡ false → Tested known b None
+            test_rest n = none_stands b (rest_wrong file journal c c.held to.seen to.last marks' table' pre.lengths w (rest_is ∙ n))
 
-            module _ (clear : not z ≡ false) (y : Bool) (ey : y ≡ every is_zero (take (length journal - c.used) (drop c.used journal))) where
+            module _ (clear : z ≡ true) (y : Bool) (ey : y ≡ every is_zero (take (length journal - c.used) (drop c.used journal))) where
               behind_is : every is_zero (drop c.used journal) ≡ y
               behind_is = ap (every is_zero) (sym (take_all (length journal - c.used) (drop c.used journal) (omega (arith, length-drop c.used journal)))) ∙ sym ey
 
-              pub test_behind : (f : Finding) → f.stands ≡ false → not y ≡ true → Tested known b f
-              test_behind f e n = none_stands b f e (journal_wrong file journal c c.held r.seen r.last marks' table' pre.lengths w (behind_is ∙ not-true y n))
+              pub test_behind : y ≡ false → Tested known b None
+              test_behind n = none_stands b (journal_wrong file journal c c.held to.seen to.last marks' table' pre.lengths w (behind_is ∙ n))
 
-              pub test_told : not y ≡ false → c.used ≤ length journal → (t : Totals) → t ≡ totals_over file c.held → (s : Bool) → s ≡ same_totals t c.totals → Tested known b (record { stands = s; seen = r.seen; last = r.last })
-              test_told n within t et s es = record {
-                if_so = λ q. test_passes file journal c c.held r.seen r.last marks' table' pre.lengths w refl (l.if_so (not-false ls alike)) (rest_is ∙ not-false z clear) (behind_is ∙ not-false y n) within
-                    (sym et ∙ totals_same t c.totals (sym es ∙ q));
-                if_not = λ q. totals_wrong file journal c c.held r.seen r.last marks' table' pre.lengths w refl (l.if_so (not-false ls alike)) (rest_is ∙ not-false z clear) (behind_is ∙ not-false y n) within
-                    (λ e. clash (es ∙ totals_alike t c.totals (et ∙ e)) q);
-              }
+              module _ (empty : y ≡ true) (within : c.used ≤ length journal) (t : Totals) (et : t ≡ totals_over file c.held) where
+                pub test_totals : (t ≡ c.totals → ⊥) → Tested known b None
+                test_totals n = none_stands b
+                    (totals_wrong file journal c c.held to.seen to.last marks' table' pre.lengths w refl (l.if_so alike) (rest_is ∙ clear) (behind_is ∙ empty) within (λ e. n (et ∙ e)))
+
+                pub test_told : t ≡ c.totals → Tested known b (Some (record { seen = to.seen; last = to.last }))
+                test_told e =
+                    let f : Finding = record { seen = to.seen; last = to.last } in
+                    let found : Found known b f.seen f.last =
+                    test_passes file journal c c.held to.seen to.last marks' table' pre.lengths w refl (l.if_so alike) (rest_is ∙ clear) (behind_is ∙ empty) within (sym et ∙ e) in
+                    record {
+                      if_so = λ g q. subst (λ (x : Finding). Found known b x.seen x.last) (same_Some f g q) found;
+                      if_not = λ q. absurd (none-some f (sym q));
+                    }
 
 -- ---- nothing is marked or noted yet
 pub few_places : (n m : ℕ) → right_lengths n m ≡ true → n / 401 ≤ 999

@@ -19,6 +19,7 @@ use Rattle.posting.specs.File.{line_of, totals_over}
 use Rattle.posting.specs.Sums.{totals_of}
 use Rattle.posting.specs.Records.{lines_of}
 use Rattle.posting.proofs.PrintedLines.{Long, all_lines_long}
+use Rattle.std.specs.Prelude.{Option}
 use Rattle.ident.specs.declared.consignor.Consignor.{Consignor}
 use Rattle.batch.specs.declared.Counts.{Counts}
 use Rattle.batch.specs.Actions.{Action, entries_of}
@@ -65,18 +66,16 @@ lines_so file (x ∷ recs) each =
 
 -- ---- what a walk to the end found
 zeros_are : (s : List ℕ) → every is_zero s ≡ true → s ≡ zeros (length s)
-unfolding every
 zeros_are [] h = refl
 zeros_are (x ∷ s) h =
     let p = (and-eq-true_iff (is_zero x) (every is_zero s)).0 h in
     rw (eqb-true x 0 p.0) (ap (λ (t : List ℕ). 0 ∷ t) (zeros_are s p.1))
 
 zeros_pass : (k : ℕ) → every is_zero (zeros k) ≡ true
-unfolding every
 zeros_pass zero = refl
 zeros_pass (suc k) = zeros_pass k
 
-module _ {known : Known} (file journal : List ℕ) (c : Counts) (held : ℕ) (seen : Consignor) (last : ℕ) (marks table : List ℕ) (good : right_lengths (length file) (length journal) ≡ true)
+module _ {known : Known} (file journal : List ℕ) (c : Counts) (held : ℕ) (seen : Option Consignor) (last : ℕ) (marks table : List ℕ) (good : right_lengths (length file) (length journal) ≡ true)
     (w : Walked known file journal held seen c.used last marks table) where
   abbrev b : Batch
   b = batch_of file journal c

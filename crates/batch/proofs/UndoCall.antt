@@ -10,7 +10,9 @@ use Rattle.text.specs.declared.Answer.{Answer}
 use Rattle.text.specs.Answers.{answer, accepted}
 use Rattle.text.specs.Lists.{overlay}
 use Rattle.batch.specs.declared.Counts.{Counts}
-use Rattle.batch.specs.declared.Gate.{Gate}
+use Rattle.batch.specs.declared.test.Finding.{Finding}
+use Rattle.std.specs.Prelude.{Result, Ok}
+use Rattle.text.specs.declared.Refusal.{Refusal}
 use Rattle.batch.specs.Actions.{Action, entry_of, entries_of}
 use Rattle.batch.specs.Rules.{posted}
 use Rattle.batch.specs.Batch.{Batch, batch_of, Undo, state, zeros, zero_filled, made, without_latest, undo_rule, rules, after, Called}
@@ -31,12 +33,12 @@ no_entries : (xs : List Action) → length (entries_of xs) ≡ 0 → xs ≡ []
 no_entries [] e = refl
 no_entries (a ∷ xs) e = absurd (omega (arith, e, length-append (entry_of a) (entries_of xs), entry_some a))
 
-module _ (psc file journal : List ℕ) (c : Counts) (g : Gate) (eg : Guarded psc (batch_of file journal c) g) (z : g.answer.code ≡ 0) where
+module _ (psc file journal : List ℕ) (c : Counts) (r : Result Finding Refusal) (eg : Guarded psc (batch_of file journal c) r) (g : Finding) (z : r ≡ Ok g) where
   abbrev this : Batch
   this = batch_of file journal c
 
   here : Found (found psc) this g.seen g.last
-  here = (eg.if_so z).found
+  here = (eg.if_so g z).found
 
   abbrev acts : List Action
   acts = here.what.actions
@@ -52,8 +54,8 @@ module _ (psc file journal : List ℕ) (c : Counts) (g : Gate) (eg : Guarded psc
   pub undo_none : c.used ≡ 0 → Called psc this Undo (answer 234 0) c file journal
   unfolding rules
   undo_none e =
-      refused_as psc file journal c g eg Undo (is_other Undo refl) refl z (answer 234 0)
-      (answered_by_rules (posted (found psc)) this here.what here.stands Undo ∙ ap undo_rule (no_entries acts (sym used_is ∙ e))) (λ q. omega (arith, q))
+      refused_as psc file journal c r eg Undo (is_other Undo refl) refl g z Refusal.NoEntry
+      (answered_by_rules (posted (found psc)) this here.what here.stands Undo ∙ ap undo_rule (no_entries acts (sym used_is ∙ e)))
 
   module _ (n : c.used ≡ 0 → ⊥) where
     pub undo_ready : Undoable file journal c g.last
@@ -94,9 +96,9 @@ module _ (psc file journal : List ℕ) (c : Counts) (g : Gate) (eg : Guarded psc
         (λ i. overlay ((journal_is ∙ ap (zero_filled (length journal)) parts) i) (here.latest i) (zeros (size i)))
         ∙ filled_less (length journal) (entries_of (without_latest acts)) (entry_of split_so.0) room
 
-    pub undo_done : (r : Counts) (file' journal' : List ℕ) → TakenBack file journal c g.last r file' → journal' ≡ overlay journal g.last (zeros (c.used - g.last)) → Called psc this Undo accepted r file' journal'
-    undo_done r file' journal' t ej =
+    pub undo_done : (k : Counts) (file' journal' : List ℕ) → TakenBack file journal c g.last k file' → journal' ≡ overlay journal g.last (zeros (c.used - g.last)) → Called psc this Undo accepted k file' journal'
+    undo_done k file' journal' t ej =
         let left : after (posted (found psc)) this Undo ≡ back = accepted_leaves (posted (found psc)) this here.what here.stands Undo (ap (λ (x : Answer). x.code) accepts) in
-        let made_so : batch_of file' journal' r ≡ back = λ i. batch_of (t.filed (found psc) here.what here.stands i) ((ej ∙ journal_back) i) (t.counted (found psc) here.what here.stands i) in
-        done_as psc file journal c g eg Undo (is_other Undo refl) refl z accepted r file' journal'
+        let made_so : batch_of file' journal' k ≡ back = λ i. batch_of (t.filed (found psc) here.what here.stands i) ((ej ∙ journal_back) i) (t.counted (found psc) here.what here.stands i) in
+        done_as psc file journal c r eg Undo (is_other Undo refl) refl g z accepted k file' journal'
         (sym (answered_by_rules (posted (found psc)) this here.what here.stands Undo ∙ accepts)) (made_so ∙ sym left)

@@ -6,56 +6,35 @@ use mathlib.Core.Bool.{Bool, true, false, cond, and-eq-true_iff}
 use mathlib.Core.List.{List, [], ◌∷◌, ◌++◌}
 use native.Mathlib.Nat.{add-sub_cancel_left, sub-zero}
 use native.Mathlib.Omega.{arith}
-use borrow.Author.Tests.{eqb-true, ne_eqb}
+use borrow.Author.Tests.{eqb-true}
 use borrow.Rule.Slice.PartMut.{put_mid}
 use lib.ListN.{length, take, drop, length-append, length-drop}
 use lib.Seq.{take-append_seam, drop-append_seam, take-take, take-add, drop-drop, length-take-le}
+use Rattle.std.specs.Prelude.{Option, Some, IsSome}
+use Rattle.batch.specs.declared.entries.Kind.{Kind}
 use Rattle.text.specs.Lists.{same_bytes}
 use Rattle.layout.specs.Layout.{field_of}
 use Rattle.fields.specs.declared.amounts.Hellers.{Hellers}
 use Rattle.batch.specs.declared.Counts.{Counts}
 use Rattle.batch.specs.Actions.{Action, Addition, Amendment, Cancellation, number_of, sized, all_sized, entry_of, entries_of}
 use Rattle.batch.specs.Records.{id_of, has_id}
-use Rattle.batch.specs.Places.{record_number, with_line, amounts_replaced}
-use Rattle.batch.specs.Entries.{body_length, kind_at}
+use Rattle.batch.specs.Places.{number_of_place, record_number, place_of, with_line, amounts_replaced}
+use Rattle.batch.specs.Entries.{number_of_kind, number_of_found, body_length, kind_at}
 use Rattle.batch.specs.Batch.{counts_of, zeros}
 use Rattle.batch.specs.Test.{record_from, EntryAt}
-use Rattle.batch.specs.Undoing.{without_line, with_blank, one_live_less, one_revived, carried_by, carried_from, found_at, Entries, RecordBefore, AdditionOff, Sought, CancellationOff, Amended, AmendmentOff}
-use Rattle.batch.proofs.CountWays.{Amount, counts_by, same_counts_lem}
+use Rattle.batch.specs.Undoing.{without_line, with_blank, one_revived, carried_by, carried_from, found_at, Entries, RecordBefore, CancellationOff, AmendmentOff}
+use Rattle.batch.proofs.CountWays.{Amount, lent_at, lent_is}
 use Rattle.batch.proofs.CallWays.{entry_cleared}
 use Rattle.batch.proofs.Made.{entry_long}
 use Rattle.batch.proofs.Reading.{entry_some}
-use Rattle.batch.proofs.StepWays.{kind_read, body_read}
+use Rattle.batch.proofs.StepWays.{kind_read, body_read, kind_told, kind_found}
+use Rattle.batch.proofs.Heads.{kind_some}
+use Rattle.batch.proofs.JournalWays.{place_is}
 
 -- ---- the file
 pub line_cleared : (file part : List ℕ) (k : ℕ) → (k ≤ 999) × (k * 401 + 401 ≤ length file) → part ≡ zeros (length (take (k * 401 + 401 - k * 401) (drop (k * 401) file)))
     → put_mid (k * 401) (k * 401 + 401 - k * 401) file part ≡ without_line file k
 line_cleared file part k pre e = entry_cleared file part (k * 401) (k * 401 + 401) (omega arith, pre.1) e ∙ rw (add-sub_cancel_left (k * 401) 401)
-
--- ---- the counts
-pub live_less : (c : Counts) (cash price d' p' : Hellers) (l : ℕ) → l ≡ c.totals.live - 1 → d'.0 ≡ c.totals.cash.0 - cash.0 → p'.0 ≡ c.totals.price.0 - price.0
-    → counts_by l c.totals.cancelled d' p' (c.held - 1) c.used ≡ counts_of (one_live_less c.totals cash.0 price.0) (c.held - 1) c.used
-live_less c cash price d' p' l el ed ep = rw el (same_counts_lem (c.totals.live - 1) c.totals.cancelled (c.held - 1) c.used _ _ d' p' ed ep)
-
-pub revived : (c : Counts) (cash price : Hellers) (k : ℕ) → k ≡ c.totals.cancelled - 1
-    → counts_by (c.totals.live + 1) k (record { 0 = c.totals.cash.0 + cash.0 }) (record { 0 = c.totals.price.0 + price.0 }) c.held c.used
-    ≡ counts_of (one_revived c.totals cash.0 price.0) c.held c.used
-revived c cash price k ek = rw ek
-
--- ---- one entry looked at
-module _ (journal : List ℕ) (at kind : ℕ) (id : List ℕ) (found : ℕ) where
-  pub looked_over : kind ≡ 2 → found ≡ found_at journal at kind id found
-  looked_over k = rw k
-
-  module _ (n : kind ≡ 2 → ⊥) (b : Bool) (e : b ≡ same_bytes (take (at + 4 + 13 - (at + 4)) (drop (at + 4) journal)) id) where
-    same_so : b ≡ same_bytes (take 13 (drop (at + 4) journal)) id
-    same_so = e ∙ rw (add-sub_cancel_left (at + 4) 13)
-
-    pub looked_hit : b ≡ true → at ≡ found_at journal at kind id found
-    looked_hit t = rw (ne_eqb kind 2 n, sym same_so ∙ t)
-
-    pub looked_miss : b ≡ false → found ≡ found_at journal at kind id found
-    looked_miss t = rw (ne_eqb kind 2 n, sym same_so ∙ t)
 
 -- ---- the walk: what the entries that are left carry
 pub record Looking (journal : List ℕ) (end : ℕ) (id : List ℕ) (found at : ℕ) : Type 0 where
@@ -188,14 +167,20 @@ module _ (journal : List ℕ) (end : ℕ) (id : List ℕ) (found at : ℕ) (g : 
       let x = ahead in
       (omega (arith, x.entry.within, entry_wide x.act x.entry.size, g.all.within), omega (arith, more, g.all.within, g.all.bounded))
 
-  module _ (kind : ℕ) (ek : kind ≡ kind_at journal end at) (n : ℕ) (en : (n ≡ body_length kind) × (13 ≤ n) × (n ≤ 399)) where
+  pub look_kind : (r : Option Kind) → number_of_found r ≡ kind_at journal end at → IsSome r
+  look_kind r er = kind_found r (λ z. kind_some ahead.act (sym (kind_read journal end at g.all.within ahead.act ahead.entry) ∙ sym er ∙ z))
+
+  module _ (r : Option Kind) (er : number_of_found r ≡ kind_at journal end at) (k : Kind) (q : r ≡ Some k) (n : ℕ) (en : (n ≡ body_length (number_of_kind k)) × (13 ≤ n) × (n ≤ 399)) where
+    abbrev kind : ℕ
+    kind = number_of_kind k
+
+    ek : kind ≡ kind_at journal end at
+    ek = kind_told r _ er k q
+
     wide_so : length (entry_of ahead.act) ≡ n + 4
     wide_so =
         let x = ahead in
         entry_by_kind x.act x.entry.size ∙ ap (λ (k : ℕ). body_length k + 4) (sym (kind_read journal end at g.all.within x.act x.entry) ∙ sym ek) ∙ ap (λ (k : ℕ). k + 4) (sym en.0)
-
-    pub look_less : end - (at + (n + 4)) < end - at
-    look_less = omega (arith, more)
 
     pub look_on : (f : ℕ) → f ≡ found_at journal at kind id found → Looking journal end id f (at + (n + 4))
     look_on f ef =
@@ -213,47 +198,24 @@ module _ (journal : List ℕ) (end : ℕ) (id : List ℕ) (found at : ℕ) (g : 
         }
 
 -- ---- one action taken off
-pub addition_off : (file rec : List ℕ) (c : Counts) (last : ℕ) (d p : Hellers) (m out : Counts) (file' : List ℕ) → Amount rec 16 d → Amount rec 17 p
-    → m ≡ counts_of (one_live_less c.totals d.0 p.0) (c.held - 1) c.used → file' ≡ without_line file (c.held - 1)
-    → out ≡ counts_of m.totals m.held last → AdditionOff file c last rec out file'
-addition_off file rec c last d p m out file' ed ep em ef eo = record { filed = ef; counted = eo ∙ rw (em, ed.0, ep.0) }
-
 -- a place that is found
-module _ (file id : List ℕ) (c : Counts) (n : ℕ) (pre : Sought file c id) (en : (n ≡ record_number file id c.held) × (n ≤ c.held)) where
-  some_found : 1 ≤ n
-  some_found = let some : n ≡ 0 → ⊥ = λ z. pre.there (sym en.0 ∙ z) in omega (arith, some)
+module _ (file id : List ℕ) (c : Counts) (r : Option ℕ) (en : (number_of_place r ≡ record_number file id c.held) × (number_of_place r ≤ c.held)) (k : ℕ) (q : r ≡ Some k) where
+  place : k ≡ place_of file id c.held
+  place = sym (place_is file [] [] id c.held 0 r en k q)
 
-  pub part_found : (n - 1) * 401 + 399 ≤ length file
-  part_found = omega (arith, some_found, en.1, pre.holding.places)
-
-  pub cancellation_off : (last : ℕ) (d p : Hellers) (m out : Counts) (file' : List ℕ)
-      → Amount (take ((n - 1) * 401 + 399 - (n - 1) * 401) (drop ((n - 1) * 401) file)) 16 d → Amount (take ((n - 1) * 401 + 399 - (n - 1) * 401) (drop ((n - 1) * 401) file)) 17 p
-      → m ≡ counts_of (one_revived c.totals d.0 p.0) c.held c.used → file' ≡ with_blank file (n - 1)
-      → out ≡ counts_of m.totals m.held last → CancellationOff file c last id out file'
-  cancellation_off last d p m out file' ed ep em ef eo = record {
-    filed = ef ∙ ap (λ (k : ℕ). with_blank file (k - 1)) en.0;
-    counted = eo ∙ rw (em, ed.0, ep.0, add-sub_cancel_left, en.0);
+  pub cancellation_off : (last : ℕ) (d p : Hellers) (m : Counts) (file' : List ℕ) → Amount (lent_at file k) 16 d → Amount (lent_at file k) 17 p
+      → m ≡ counts_of (one_revived c.totals d.0 p.0) c.held c.used → file' ≡ with_blank file k → CancellationOff file c last id (counts_of m.totals m.held last) file'
+  cancellation_off last d p m file' ed ep em ef = record {
+    filed = ef ∙ ap (with_blank file) place;
+    counted = rw (em, ed.0, ep.0, lent_is file k, place);
   }
 
-module _ (file old id : List ℕ) (c : Counts) (n : ℕ) (pre : Amended file c old) (ei : id ≡ field_of old 1) (en : (n ≡ record_number file id c.held) × (n ≤ c.held)) where
-  found_so : (n ≡ record_number file (id_of old) c.held) × (n ≤ c.held)
-  found_so = (en.0 ∙ ap (λ (x : List ℕ). record_number file x c.held) ei, en.1)
-
-  pub old_found : 1 ≤ n
-  old_found = some_found file (id_of old) c n pre.sought found_so
-
-  pub old_part : (n - 1) * 401 + 399 ≤ length file
-  old_part = part_found file (id_of old) c n pre.sought found_so
-
-  pub old_line : (n - 1 ≤ 999) × ((n - 1) * 401 + 401 ≤ length file) × (length old ≡ 399)
-  old_line = (omega (arith, en.1, pre.sought.holding.few), omega (arith, old_found, en.1, pre.sought.holding.places), pre.long)
-
-  pub amendment_off : (last : ℕ) (d p d' p' : Hellers) (m out : Counts) (file' : List ℕ)
-      → Amount (take ((n - 1) * 401 + 399 - (n - 1) * 401) (drop ((n - 1) * 401) file)) 16 d → Amount (take ((n - 1) * 401 + 399 - (n - 1) * 401) (drop ((n - 1) * 401) file)) 17 p
+  pub amendment_off : (old : List ℕ) → id ≡ field_of old 1 → (last : ℕ) (d p d' p' : Hellers) (m : Counts) (file' : List ℕ) → Amount (lent_at file k) 16 d → Amount (lent_at file k) 17 p
       → Amount old 16 d' → Amount old 17 p'
-      → m ≡ counts_of (amounts_replaced c.totals d.0 p.0 d'.0 p'.0) c.held c.used → file' ≡ with_line file (n - 1) old
-      → out ≡ counts_of m.totals m.held last → AmendmentOff file c last old out file'
-  amendment_off last d p d' p' m out file' ed ep ed' ep' em ef eo = record {
-    filed = ef ∙ ap (λ (k : ℕ). with_line file (k - 1) old) found_so.0;
-    counted = eo ∙ rw (em, ed.0, ep.0, ed'.0, ep'.0, add-sub_cancel_left, found_so.0);
-  }
+      → m ≡ counts_of (amounts_replaced c.totals d.0 p.0 d'.0 p'.0) c.held c.used → file' ≡ with_line file k old → AmendmentOff file c last old (counts_of m.totals m.held last) file'
+  amendment_off old ei last d p d' p' m file' ed ep ed' ep' em ef =
+      let at : k ≡ place_of file (id_of old) c.held = place ∙ ap (λ (x : List ℕ). place_of file x c.held) ei in
+      record {
+        filed = ef ∙ ap (λ (x : ℕ). with_line file x old) at;
+        counted = rw (em, ed.0, ep.0, ed'.0, ep'.0, lent_is file k, at);
+      }

@@ -24,7 +24,8 @@ use Rattle.record.specs.Consignors.{consignor_of, consignors_of, strays, first_o
 use Rattle.record.proofs.Consignors.{first_suffices, first_more}
 use Rattle.record.proofs.Status.{cancelled_rec_others, cancelled_rec_status}
 use Rattle.batch.specs.declared.Counts.{Counts}
-use Rattle.batch.specs.declared.test.Place.TheVariants.{At, Nowhere}
+use Rattle.std.specs.Prelude.{Option, Some, None}
+use Rattle.std.proofs.lemmas.Option.{none-some, same_Some}
 use mathlib.Core.Option.{some-injective}
 use Rattle.batch.specs.Actions.{Action, Addition, Amendment, Cancellation, kinds, kind_of, number_of, body_of, sized, all_sized, entry_length, entry_of, entries_of, Entry, first_entry}
 use Rattle.batch.specs.Records.{id_of, has_id, is_cancelled_rec, replaced_by, cancelled_for, records_after, records_from, records_of}
@@ -41,7 +42,6 @@ use Rattle.batch.proofs.PlaceLaws.{cancelled_there, is_present_lem, changed_ther
 use Rattle.batch.proofs.Reading.{entry_first, entry_some}
 use Rattle.batch.proofs.Verdicts.{posted_fit}
 use Rattle.batch.proofs.Made.{records_last, entries_last, entry_long, Accepted, accepted_if, Fits, turns_fit, turns_last}
-use Rattle.batch.proofs.TestWays.{at_once, nowhere_at}
 use Rattle.batch.specs.Entries.{body_at}
 use Rattle.batch.proofs.StepWays.{body_read}
 
@@ -210,7 +210,7 @@ without_latest_lem (x ∷ []) a = refl
 without_latest_lem (x ∷ y ∷ xs) a = ap (λ (t : List Action). x ∷ t) (without_latest_lem (y ∷ xs) a)
 
 -- ---- the walk so far
-module _ {known : Known} (file journal : List ℕ) (held : ℕ) (seen : Consignor) (used last : ℕ) (marks table : List ℕ) (w : Walked known file journal held seen used last marks table) where
+module _ {known : Known} (file journal : List ℕ) (held : ℕ) (seen : Option Consignor) (used last : ℕ) (marks table : List ℕ) (w : Walked known file journal held seen used last marks table) where
   abbrev n : ℕ
   n = length file
 
@@ -252,20 +252,20 @@ module _ {known : Known} (file journal : List ℕ) (held : ℕ) (seen : Consigno
   here_if : (id : List ℕ) (k : ℕ) → k < held → key_at file 0 k ≡ id → seek file 0 id held ≡ suc k → Here id k
   here_if id k h q e = record { within = h; sits = omega (arith, h, w.many); its = (same_exactly _ _).1 (sym (id_at_lem k h) ∙ q); found = e }
 
-  live_here : (id : List ℕ) (k : ℕ) → live_in file held marks id ≡ At k → Here id k × (odd (get_or marks k 0) ≡ false)
+  live_here : (id : List ℕ) (k : ℕ) → live_in file held marks id ≡ Some k → Here id k × (odd (get_or marks k 0) ≡ false)
   unfolding live_from
   live_here id k l = go (sought file id held)
     where
       go : Sought file id held → Here id k × (odd (get_or marks k 0) ≡ false)
-      go (nowhere e none) = absurd (nowhere_at k (sym (ap (live_from marks) e) ∙ l))
+      go (nowhere e none) = absurd (none-some k (sym (ap (live_from marks) e) ∙ l))
       go (there j e h q) = on (odd (get_or marks j 0)) refl (sym (ap (live_from marks) e) ∙ l)
         where
-          on : (t : Bool) → odd (get_or marks j 0) ≡ t → cond t Nowhere (At j) ≡ At k → Here id k × (odd (get_or marks k 0) ≡ false)
-          on true d x = absurd (nowhere_at k x)
-          on false d x = subst (λ (i : ℕ). Here id i × (odd (get_or marks i 0) ≡ false)) (at_once j k x) (here_if id j h q e, d)
+          on : (t : Bool) → odd (get_or marks j 0) ≡ t → cond t None (Some j) ≡ Some k → Here id k × (odd (get_or marks k 0) ≡ false)
+          on true d x = absurd (none-some k x)
+          on false d x = subst (λ (i : ℕ). Here id i × (odd (get_or marks i 0) ≡ false)) (same_Some j k x) (here_if id j h q e, d)
 
   -- so an amendment and a cancellation meet a live consignment by the rules
-  live_rules : (id : List ℕ) (k : ℕ) → live_in file held marks id ≡ At k → live_rule recs id ≡ accepted
+  live_rules : (id : List ℕ) (k : ℕ) → live_in file held marks id ≡ Some k → live_rule recs id ≡ accepted
   live_rules id k l =
       let p = live_here id k l in
       let h = p.0 in
@@ -273,11 +273,11 @@ module _ {known : Known} (file journal : List ℕ) (held : ℕ) (seen : Consigno
       rw (is_present_lem recs fit_so.sheet id k h.sits h.its, struck)
 
   -- and the other way round
-  rules_live : (id : List ℕ) → is_present recs id ≡ true → is_cancelled_there recs id ≡ false → (k : ℕ) × (live_in file held marks id ≡ At k)
+  rules_live : (id : List ℕ) → is_present recs id ≡ true → is_cancelled_there recs id ≡ false → (k : ℕ) × (live_in file held marks id ≡ Some k)
   unfolding live_from
   rules_live id p c = go (sought file id held)
     where
-      go : Sought file id held → (k : ℕ) × (live_in file held marks id ≡ At k)
+      go : Sought file id held → (k : ℕ) × (live_in file held marks id ≡ Some k)
       go (nowhere e none) = absurd (clash p (absent_if id e))
       go (there k e h q) =
           let at = here_if id k h q e in
@@ -291,7 +291,7 @@ module _ {known : Known} (file journal : List ℕ) (held : ℕ) (seen : Consigno
 
     -- the first consignor named suffices
     no_other_named : (rec : List ℕ) → another seen (consignor_of rec) ≡ false → strays recs rec ≡ false
-    no_other_named rec q = first_suffices recs rec fit_so.sheet.one ∙ ap (λ (c : Consignor). another c (consignor_of rec)) (sym w.first) ∙ q
+    no_other_named rec q = first_suffices recs rec fit_so.sheet.one ∙ ap (λ (c : Option Consignor). another c (consignor_of rec)) (sym w.first) ∙ q
 
     meets_rule : (b : Action) → Meets known file held seen marks b → (action_rule (posted known) recs (n / 401) b).code ≡ 0
     unfolding action_rule or_else
@@ -368,7 +368,7 @@ module _ {known : Known} (file journal : List ℕ) (held : ℕ) (seen : Consigno
         let even = (live_here id p.0 p.1.there).1 in
         small_set p.0 (get_or marks p.0 0 + 1) (subst (λ (h : ℕ). h ≤ 1048576) (sym (same_half (get_or marks p.0 0) even)) (w.marking.small p.0)) i
 
-    pub walk_on : length journal ≤ 1048576 → (seen' : Consignor) (marks' table' : List ℕ) → length table' ≡ length table → Taken known file held seen used marks a seen' marks' table'
+    pub walk_on : length journal ≤ 1048576 → (seen' : Option Consignor) (marks' table' : List ℕ) → length table' ≡ length table → Taken known file held seen used marks a seen' marks' table'
         → Walked known file journal (held_after held a) seen' (used + length (entry_of a)) used marks' table'
     walk_on bounded seen' marks' table' long t =
         let p = t.meets in
@@ -383,7 +383,7 @@ module _ {known : Known} (file journal : List ℕ) (held : ℕ) (seen : Consigno
           front = take-add used (length (entry_of a)) journal ∙ (λ i. w.front i ++ e.bytes i) ∙ sym (entries_last w.acts a);
           turns = turns;
           many = many;
-          first = t.sees ∙ ap (λ (c : Consignor). seen_after c a) w.first ∙ sym (first_after recs a) ∙ ap first_of (sym after);
+          first = t.sees ∙ ap (λ (c : Option Consignor). seen_after c a) w.first ∙ sym (first_after recs a) ∙ ap first_of (sym after);
           named = λ i h. (right i h).named;
           struck = λ i h. (right i h).struck;
           ids = λ i h. (right i h).own;
@@ -464,7 +464,7 @@ pub made_file : {v : Verdict} (file journal : List ℕ) (c : Counts) (s : State)
 unfolding made
 made_file file journal c s st = ap (λ (x : Batch). x.file) st.is
 
-module _ {known : Known} (file journal : List ℕ) (held : ℕ) (seen : Consignor) (used last end : ℕ) (marks table : List ℕ) (w : Walked known file journal held seen used last marks table) (before : used < end) (within : end ≤ length journal)
+module _ {known : Known} (file journal : List ℕ) (held : ℕ) (seen : Option Consignor) (used last end : ℕ) (marks table : List ℕ) (w : Walked known file journal held seen used last marks table) (before : used < end) (within : end ≤ length journal)
     (c : Counts) (ec : c.used ≡ end) (s : State) (st : Stands (posted known) (batch_of file journal c) s) where
   abbrev all_acts : List Action
   all_acts = s.actions
@@ -530,7 +530,7 @@ module _ {known : Known} (file journal : List ℕ) (held : ℕ) (seen : Consigno
         record {
           room = omega (arith, p.room, w.many);
           good = p.passes;
-          same = ap (λ (x : Consignor). another x (consignor_of rec)) w.first ∙ sym (first_suffices now rec (turns_fit (posted known) (posted_fit known) (length file) (length journal) w.acts w.turns).sheet.one) ∙ p.same;
+          same = ap (λ (x : Option Consignor). another x (consignor_of rec)) w.first ∙ sym (first_suffices now rec (turns_fit (posted known) (posted_fit known) (length file) (length journal) w.acts w.turns).sheet.one) ∙ p.same;
           own = own_there rec same;
           new = new_there (id_of rec) p.new;
         }

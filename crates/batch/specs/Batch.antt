@@ -1,9 +1,10 @@
 -- The calls of the open batch, in the paper's words: the list of actions that stands in a batch, one `answer_to` and one `after` for all calls.
 -- How a call finds the list out is nobody's business but its proof's.
 -- Assumes nothing.
-use Rattle.std.specs.Prelude.{ℕ, ◌-◌, ◌%◌, Bool, true, false, cond, not, ◌&&◌, ◌≡◌, List, [], ◌∷◌, ◌++◌, length, take, replicate, eqb, leb}
+use Rattle.std.specs.Prelude.{ℕ, ◌-◌, ◌%◌, Bool, true, false, cond, not, ◌&&◌, ◌≡◌, List, [], ◌∷◌, ◌++◌, length, take, replicate, eqb, leb, Result, Ok, Err}
 use Rattle.std.proofs.Math.Option.{Option, none, some}
 use Rattle.text.specs.declared.Answer.{Answer}
+use Rattle.text.specs.declared.Refusal.{Refusal}
 use Rattle.text.specs.Answers.{answer, accepted}
 use Rattle.text.specs.Lists.{same_bytes}
 use Rattle.psc.specs.Table.{right_table, wrong_table, holds}
@@ -27,6 +28,11 @@ batch_of file journal counts = record { file = file; journal = journal; counts =
 
 abbrev pub counts_of : Totals → ℕ → ℕ → Counts
 counts_of t held used = record { totals = t; held = held; used = used }
+
+-- the counts behind a call: those that it gives, or where it refuses those that it got
+abbrev pub counts_or : Counts → Result Counts Refusal → Counts
+counts_or c (Ok d) = d
+counts_or c (Err e) = c
 
 abbrev pub no_counts : Counts
 no_counts = counts_of no_totals 0 0

@@ -1,6 +1,25 @@
 -- How the code reads and writes the entries of the journal: the head byte by byte, kinds as numbers.
 -- Assumes nothing.
-use Rattle.std.specs.Prelude.{ℕ, ◌+◌, ◌-◌, Bool, false, cond, ◌&&◌, List, [], ◌∷◌, ◌++◌, get_or, take, drop, eqb, leb}
+use Rattle.std.specs.Prelude.{ℕ, ◌+◌, ◌-◌, Bool, false, cond, ◌&&◌, List, [], ◌∷◌, ◌++◌, get_or, take, drop, eqb, leb, Option, Some, None}
+use Rattle.batch.specs.declared.entries.Kind.{Kind}
+use Rattle.batch.specs.Actions.{Action, Addition, Amendment, Cancellation}
+
+-- ---- kinds by their numbers
+abbrev pub number_of_kind : Kind → ℕ
+number_of_kind Kind.Addition = 1
+number_of_kind Kind.Cancellation = 2
+number_of_kind Kind.Amendment = 3
+
+-- the action of a kind that carries a body
+abbrev pub action_of : Kind → List ℕ → Action
+action_of Kind.Addition body = Addition body
+action_of Kind.Cancellation body = Cancellation body
+action_of Kind.Amendment body = Amendment body
+
+-- 0 where there is none
+abbrev pub number_of_found : Option Kind → ℕ
+number_of_found None = 0
+number_of_found (Some kind) = number_of_kind kind
 
 -- ---- an entry: its length, two bytes little-endian, then a two-byte kind, little-endian, then what it carries
 -- 403 and kinds 1 and 3 with the 399 bytes of a record, 17 and kind 2 with the 13 of an identifier

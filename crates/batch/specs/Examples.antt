@@ -4,7 +4,6 @@ use Rattle.std.specs.Prelude.{ℕ, ◌≡◌, refl, List, [], ◌∷◌, map}
 use Rattle.std.proofs.Math.Option.{some, Option-elim}
 use Rattle.text.specs.declared.Answer.{Answer}
 use Rattle.text.specs.Answers.{answer, accepted}
-use Rattle.text.specs.Bytes.{every, run}
 use Rattle.text.specs.Lists.{same_bytes}
 use Rattle.text.specs.Numbers.{number_after, digits, decimal_places_up_to}
 use Rattle.text.specs.Texts.{bytes}
@@ -102,5 +101,5 @@ pub record Shown : Type 0 where
   pub read : actions_in (entries_of left) ≡ some left
 
 pub shown : Shown
-unfolding holds bytes in_field laid_out record_of parcel sent_to first renamed second third fourth claims left consignor_in another_in every run number_after same_bytes shape_of weighted ends_right right_id parts_of field_of framed days_in read_date read_time filled contains is_host is_mail is_money digits decimal_places_up_to numbers_from codes number_for words has_code with_code added read_by how_many several_sizes asked_of given_of travel_of table record_answer kept or_else any_record action_rule entry_rule made rules first_entry entries_in Option-elim
+unfolding holds bytes in_field laid_out record_of parcel sent_to first renamed second third fourth claims left consignor_in another_in number_after same_bytes shape_of weighted ends_right right_id parts_of field_of framed days_in read_date read_time filled contains is_host is_mail is_money digits decimal_places_up_to numbers_from codes number_for words has_code with_code added read_by how_many several_sizes asked_of given_of travel_of table record_answer kept or_else any_record action_rule entry_rule made rules first_entry entries_in Option-elim
 shown = record { answers = refl; stands = refl; records = refl; counts = refl; read = refl }

@@ -1,7 +1,7 @@
 -- "The open batch": what an addition, an amendment and a cancellation meet, and what they make of the file and the totals.
 -- A file buffer and how many records it holds stand for the records, and so does the first consignor that they name; places are counted from 0.
 -- Assumes nothing.
-use Rattle.std.specs.Prelude.{ℕ, zero, suc, ◌+◌, ◌-◌, ◌*◌, Bool, cond, not, List, length, get_or, set, eqb, leb}
+use Rattle.std.specs.Prelude.{ℕ, zero, suc, ◌+◌, ◌-◌, ◌*◌, Bool, cond, not, List, length, get_or, set, eqb, leb, Option, Some, None}
 use Rattle.text.specs.declared.Answer.{Answer}
 use Rattle.text.specs.Answers.{answer, accepted, or_else}
 use Rattle.text.specs.Lists.{same_bytes, overlay}
@@ -20,6 +20,11 @@ use Rattle.posting.specs.File.{line_of, id_at, totals}
 unfoldable pub record_number : List ℕ → List ℕ → ℕ → ℕ
 record_number file id zero = 0
 record_number file id (suc n) = cond (same_bytes (id_at file n) id) (suc n) (record_number file id n)
+
+-- of the place that is found
+abbrev pub number_of_place : Option ℕ → ℕ
+number_of_place None = 0
+number_of_place (Some k) = k + 1
 
 abbrev pub present : List ℕ → List ℕ → ℕ → Bool
 present file id held = not (eqb (record_number file id held) 0)
@@ -41,7 +46,7 @@ abbrev pub live_answer : List ℕ → ℕ → List ℕ → Answer
 live_answer file held id =
     cond (present file id held) (cond (is_cancelled_at file (place_of file id held)) (answer 233 0) accepted) (answer 232 0)
 
-unfoldable pub add_answer : Known → List ℕ → ℕ → Consignor → List ℕ → Answer
+unfoldable pub add_answer : Known → List ℕ → ℕ → Option Consignor → List ℕ → Answer
 add_answer known file held seen rec =
     or_else (record_answer (to_post known) rec)
     (cond (present file (id_of rec) held) (answer 2 1)
@@ -63,7 +68,7 @@ abbrev pub with_cancelled : List ℕ → ℕ → List ℕ
 with_cancelled file k = set (set file (k * 401 + 340) 48) (k * 401 + 341) 32
 
 -- ---- kinds of entries: 1 addition, 2 cancellation, 3 amendment; no other is ever asked about
-unfoldable pub action_answer : Known → List ℕ → ℕ → Consignor → ℕ → List ℕ → Answer
+unfoldable pub action_answer : Known → List ℕ → ℕ → Option Consignor → ℕ → List ℕ → Answer
 action_answer known file held seen kind body =
     cond (eqb kind 1) (add_answer known file held seen body) (cond (eqb kind 3) (amend_answer known file held body) (cancel_answer file held body))
 

@@ -1,6 +1,6 @@
 -- What the private functions of the test of the state ask and promise. No promise of a public call speaks of marks or of an index.
 -- Assumes nothing.
-use Rattle.std.specs.Prelude.{ℕ, zero, suc, ◌+◌, ◌*◌, ◌/◌, ◌%◌, ◌≤◌, ◌<◌, Bool, true, false, cond, ◌≡◌, List, [], length, get_or, set, take, drop, eqb}
+use Rattle.std.specs.Prelude.{ℕ, zero, suc, ◌+◌, ◌*◌, ◌/◌, ◌%◌, ◌≤◌, ◌<◌, Bool, true, false, cond, ◌≡◌, List, [], length, get_or, set, take, drop, eqb, Option, Some, None}
 use Rattle.psc.specs.Table.{Known}
 use Rattle.ident.specs.declared.consignor.Consignor.{Consignor}
 use Rattle.ident.specs.Identifier.{right_id}
@@ -12,10 +12,7 @@ use Rattle.record.specs.Consignors.{consignor_of, first_of}
 use Rattle.posting.specs.File.{line_of}
 use Rattle.batch.specs.declared.Counts.{Counts}
 use Rattle.batch.specs.declared.test.Reached.{Reached}
-use Rattle.batch.specs.declared.test.Marking.{Marking}
 use Rattle.batch.specs.declared.test.Finding.{Finding}
-use Rattle.batch.specs.declared.test.Place.{Place}
-use Rattle.batch.specs.declared.test.Place.TheVariants.{At, Nowhere}
 use Rattle.batch.specs.Actions.{Action, Addition, Amendment, Cancellation, number_of, body_of, sized, entry_of, entries_of}
 use Rattle.batch.specs.Records.{id_of, is_cancelled_rec, records_of}
 use Rattle.batch.specs.Rules.{posted, in_turn}
@@ -42,36 +39,36 @@ pub record Noted (file : List ℕ) (held : ℕ) (marks table : List ℕ) : Type 
   pub bounds : length file ≤ 400599
 
 -- the live consignment with an identifier
-unfoldable pub live_from : List ℕ → ℕ → Place
-live_from marks zero = Nowhere
-live_from marks (suc k) = cond (odd (get_or marks k 0)) Nowhere (At k)
+unfoldable pub live_from : List ℕ → ℕ → Option ℕ
+live_from marks zero = None
+live_from marks (suc k) = cond (odd (get_or marks k 0)) None (Some k)
 
-abbrev pub live_in : List ℕ → ℕ → List ℕ → List ℕ → Place
+abbrev pub live_in : List ℕ → ℕ → List ℕ → List ℕ → Option ℕ
 live_in file held marks id = live_from marks (seek file 0 id held)
 
 -- ---- an addition passes exactly so, behind records of which this consignor is the first that is named; it is then noted and marked, and its consignor seen
-pub record Adds (known : Known) (file : List ℕ) (held : ℕ) (seen : Consignor) (rec : List ℕ) : Type 0 where
+pub record Adds (known : Known) (file : List ℕ) (held : ℕ) (seen : Option Consignor) (rec : List ℕ) : Type 0 where
   pub room : held * 401 + 401 ≤ length file
   pub good : (posted known rec).code ≡ 0
   pub same : another seen (consignor_of rec) ≡ false
   pub own : key_at file 0 held ≡ id_of rec
   pub new : seek file 0 (id_of rec) held ≡ 0
 
-pub record AddedNow (known : Known) (file : List ℕ) (held : ℕ) (seen : Consignor) (used : ℕ) (rec marks table : List ℕ) (seen' : Consignor) (marks' table' : List ℕ) : Type 0 where
+pub record AddedNow (known : Known) (file : List ℕ) (held : ℕ) (seen : Option Consignor) (used : ℕ) (rec marks table : List ℕ) (seen' : Option Consignor) (marks' table' : List ℕ) : Type 0 where
   pub passes : Adds known file held seen rec
   pub now_seen : seen' ≡ or_named seen (consignor_of rec)
   pub now_marks : marks' ≡ set marks held (used * 2)
   pub noted : Indexed file 0 (held + 1) table'
 
-pub record Added (known : Known) (file : List ℕ) (held : ℕ) (seen : Consignor) (used : ℕ) (rec marks table : List ℕ) (r : Marking) (marks' table' : List ℕ) : Type 0 where
-  pub if_so : r.good ≡ true → AddedNow known file held seen used rec marks table r.seen marks' table'
-  pub if_not : r.good ≡ false → Adds known file held seen rec → ⊥
+pub record Added (known : Known) (file : List ℕ) (held : ℕ) (seen : Option Consignor) (used : ℕ) (rec marks table : List ℕ) (r : Option (Option Consignor)) (marks' table' : List ℕ) : Type 0 where
+  pub if_so : (seen' : Option Consignor) → r ≡ Some seen' → AddedNow known file held seen used rec marks table seen' marks' table'
+  pub if_not : r ≡ None → Adds known file held seen rec → ⊥
   pub long : length table' ≡ length table
 
 -- ---- an amendment, and a cancellation, of the live consignment at k
 pub record Amends (known : Known) (file : List ℕ) (held : ℕ) (rec marks : List ℕ) (k : ℕ) : Type 0 where
   pub good : (posted known rec).code ≡ 0
-  pub there : live_in file held marks (id_of rec) ≡ At k
+  pub there : live_in file held marks (id_of rec) ≡ Some k
 
 pub record AmendedNow (known : Known) (file : List ℕ) (held used : ℕ) (rec marks marks' : List ℕ) : Type 0 where
   pub place : ℕ
@@ -84,7 +81,7 @@ pub record Amended (known : Known) (file : List ℕ) (held used : ℕ) (rec mark
 
 pub record Cancels (file : List ℕ) (held : ℕ) (id marks : List ℕ) (k : ℕ) : Type 0 where
   pub right : right_id id ≡ true
-  pub there : live_in file held marks id ≡ At k
+  pub there : live_in file held marks id ≡ Some k
 
 pub record CancelledNow (file : List ℕ) (held : ℕ) (id marks marks' : List ℕ) : Type 0 where
   pub place : ℕ
@@ -96,12 +93,12 @@ pub record Cancelled (file : List ℕ) (held : ℕ) (id marks : List ℕ) (r : B
   pub if_not : r ≡ false → (k : ℕ) → Cancels file held id marks k → ⊥
 
 -- ---- an action at the entry that starts at `used`: what it meets, and what is marked and noted then
-abbrev pub Meets : Known → List ℕ → ℕ → Consignor → List ℕ → Action → Type 0
+abbrev pub Meets : Known → List ℕ → ℕ → Option Consignor → List ℕ → Action → Type 0
 Meets known file held seen marks (Addition rec) = Adds known file held seen rec
 Meets known file held seen marks (Amendment rec) = (k : ℕ) × Amends known file held rec marks k
 Meets known file held seen marks (Cancellation id) = (k : ℕ) × Cancels file held id marks k
 
-abbrev pub marks_after : (known : Known) (file : List ℕ) (held : ℕ) (seen : Consignor) (used : ℕ) (marks : List ℕ) (a : Action) → Meets known file held seen marks a → List ℕ
+abbrev pub marks_after : (known : Known) (file : List ℕ) (held : ℕ) (seen : Option Consignor) (used : ℕ) (marks : List ℕ) (a : Action) → Meets known file held seen marks a → List ℕ
 marks_after known file held seen used marks (Addition rec) p = set marks held (used * 2)
 marks_after known file held seen used marks (Amendment rec) p = set marks p.0 (used * 2)
 marks_after known file held seen used marks (Cancellation id) p = set marks p.0 (get_or marks p.0 0 + 1)
@@ -111,23 +108,23 @@ held_after held (Addition rec) = held + 1
 held_after held (Amendment rec) = held
 held_after held (Cancellation id) = held
 
-abbrev pub seen_after : Consignor → Action → Consignor
+abbrev pub seen_after : Option Consignor → Action → Option Consignor
 seen_after seen (Addition rec) = or_named seen (consignor_of rec)
 seen_after seen (Amendment rec) = seen
 seen_after seen (Cancellation id) = seen
 
-pub record Taken (known : Known) (file : List ℕ) (held : ℕ) (seen : Consignor) (used : ℕ) (marks : List ℕ) (a : Action) (seen' : Consignor) (marks' table' : List ℕ) : Type 0 where
+pub record Taken (known : Known) (file : List ℕ) (held : ℕ) (seen : Option Consignor) (used : ℕ) (marks : List ℕ) (a : Action) (seen' : Option Consignor) (marks' table' : List ℕ) : Type 0 where
   pub meets : Meets known file held seen marks a
   pub sees : seen' ≡ seen_after seen a
   pub left : marks' ≡ marks_after known file held seen used marks a meets
   pub noted : Indexed file 0 (held_after held a) table'
 
-pub record Judged (known : Known) (file : List ℕ) (held : ℕ) (seen : Consignor) (used : ℕ) (marks : List ℕ) (a : Action) (r : Marking) (marks' table' : List ℕ) : Type 0 where
-  pub if_so : r.good ≡ true → Taken known file held seen used marks a r.seen marks' table'
-  pub if_not : r.good ≡ false → Meets known file held seen marks a → ⊥
+pub record Judged (known : Known) (file : List ℕ) (held : ℕ) (seen : Option Consignor) (used : ℕ) (marks : List ℕ) (a : Action) (r : Option (Option Consignor)) (marks' table' : List ℕ) : Type 0 where
+  pub if_so : (seen' : Option Consignor) → r ≡ Some seen' → Taken known file held seen used marks a seen' marks' table'
+  pub if_not : r ≡ None → Meets known file held seen marks a → ⊥
 
 -- of the action with this number and this body
-pub record MarkedEntry (known : Known) (file : List ℕ) (held : ℕ) (seen : Consignor) (used number : ℕ) (body marks table : List ℕ) (r : Marking) (marks' table' : List ℕ) : Type 0 where
+pub record MarkedEntry (known : Known) (file : List ℕ) (held : ℕ) (seen : Option Consignor) (used number : ℕ) (body marks table : List ℕ) (r : Option (Option Consignor)) (marks' table' : List ℕ) : Type 0 where
   pub judges : (a : Action) → number_of a ≡ number → body_of a ≡ body → Judged known file held seen used marks a r marks' table'
   pub long : length table' ≡ length table
 
@@ -138,7 +135,7 @@ pub record EntryAt (journal : List ℕ) (end used : ℕ) (a : Action) : Type 0 w
   pub bytes : take (length (entry_of a)) (drop used journal) ≡ entry_of a
   pub within : used + length (entry_of a) ≤ end
 
-pub record StepTaken (known : Known) (file journal : List ℕ) (end held : ℕ) (seen : Consignor) (used : ℕ) (marks : List ℕ) (r : Reached) (marks' table' : List ℕ) : Type 0 where
+pub record StepTaken (known : Known) (file journal : List ℕ) (end held : ℕ) (seen : Option Consignor) (used : ℕ) (marks : List ℕ) (r : Reached) (marks' table' : List ℕ) : Type 0 where
   pub action : Action
   pub entry : EntryAt journal end used action
   pub taken : Taken known file held seen used marks action r.seen marks' table'
@@ -146,9 +143,9 @@ pub record StepTaken (known : Known) (file journal : List ℕ) (end held : ℕ) 
   pub moves : r.used ≡ used + length (entry_of action)
   pub from : r.last ≡ used
 
-pub record Stepped (known : Known) (file journal : List ℕ) (end held : ℕ) (seen : Consignor) (used : ℕ) (marks table : List ℕ) (r : Reached) (marks' table' : List ℕ) : Type 0 where
-  pub if_so : r.good ≡ true → StepTaken known file journal end held seen used marks r marks' table'
-  pub if_not : r.good ≡ false → (a : Action) → EntryAt journal end used a → Meets known file held seen marks a → ⊥
+pub record Stepped (known : Known) (file journal : List ℕ) (end held : ℕ) (seen : Option Consignor) (used : ℕ) (marks table : List ℕ) (r : Option Reached) (marks' table' : List ℕ) : Type 0 where
+  pub if_so : (to : Reached) → r ≡ Some to → StepTaken known file journal end held seen used marks to marks' table'
+  pub if_not : r ≡ None → (a : Action) → EntryAt journal end used a → Meets known file held seen marks a → ⊥
   pub long : length table' ≡ length table
 
 pub record Stepping (file journal : List ℕ) (end held used : ℕ) (marks table : List ℕ) : Type 0 where
@@ -158,7 +155,7 @@ pub record Stepping (file journal : List ℕ) (end held used : ℕ) (marks table
   pub bounded : length journal ≤ 1048576
 
 -- ---- the walk so far: the entries up to `used` are those of actions that are acceptable in their turn, and the marks name their records
-pub record Walked (known : Known) (file journal : List ℕ) (held : ℕ) (seen : Consignor) (used last : ℕ) (marks table : List ℕ) : Type 0 where
+pub record Walked (known : Known) (file journal : List ℕ) (held : ℕ) (seen : Option Consignor) (used last : ℕ) (marks table : List ℕ) : Type 0 where
   pub acts : List Action
   pub front : take used journal ≡ entries_of acts
   pub turns : in_turn (posted known) (length file) (length journal) acts ≡ true
@@ -171,9 +168,9 @@ pub record Walked (known : Known) (file journal : List ℕ) (held : ℕ) (seen :
   pub marking : Noted file held marks table
 
 -- the whole walk: up to `end`, or nothing stands in a batch with this file and journal and so many bytes used
-pub record WalkedTo (known : Known) (file journal : List ℕ) (end : ℕ) (table : List ℕ) (r : Reached) (marks' table' : List ℕ) : Type 0 where
-  pub if_so : r.good ≡ true → Walked known file journal r.held r.seen end r.last marks' table'
-  pub if_not : r.good ≡ false → (c : Counts) → c.used ≡ end → (s : State) → Stands (posted known) (batch_of file journal c) s → ⊥
+pub record WalkedTo (known : Known) (file journal : List ℕ) (end : ℕ) (table : List ℕ) (r : Option Reached) (marks' table' : List ℕ) : Type 0 where
+  pub if_so : (to : Reached) → r ≡ Some to → Walked known file journal to.held to.seen end to.last marks' table'
+  pub if_not : r ≡ None → (c : Counts) → c.used ≡ end → (s : State) → Stands (posted known) (batch_of file journal c) s → ⊥
 
 -- nothing is noted or marked yet
 pub record Fresh (file journal : List ℕ) (end : ℕ) (marks table : List ℕ) : Type 0 where
@@ -201,15 +198,15 @@ pub record LinesSame (file journal : List ℕ) (held : ℕ) (marks : List ℕ) (
   pub if_not : r ≡ false → ((i : ℕ) → i < held → LineAt file journal marks i) → ⊥
 
 -- ---- the test: what stands in a batch, the first consignor that its records name, and where its latest entry starts
-pub record Found (known : Known) (b : Batch) (seen : Consignor) (last : ℕ) : Type 0 where
+pub record Found (known : Known) (b : Batch) (seen : Option Consignor) (last : ℕ) : Type 0 where
   pub what : State
   pub stands : Stands (posted known) b what
   pub first : seen ≡ first_of (records_of what.actions)
   pub latest : last ≡ length (entries_of (without_latest what.actions))
 
-pub record Tested (known : Known) (b : Batch) (r : Finding) : Type 0 where
-  pub if_so : r.stands ≡ true → Found known b r.seen r.last
-  pub if_not : r.stands ≡ false → (s : State) → Stands (posted known) b s → ⊥
+pub record Tested (known : Known) (b : Batch) (r : Option Finding) : Type 0 where
+  pub if_so : (f : Finding) → r ≡ Some f → Found known b f.seen f.last
+  pub if_not : r ≡ None → (s : State) → Stands (posted known) b s → ⊥
 
 -- buffers of the right lengths, and nothing marked or noted yet
 pub record ToTest (file journal marks table : List ℕ) : Type 0 where

@@ -1,7 +1,7 @@
 -- What the private functions of the way back ask and promise: the latest action is taken off file and counts, and nothing is made anew.
 -- No promise of a public call speaks of them.
 -- Assumes nothing.
-use Rattle.std.specs.Prelude.{ℕ, ◌+◌, ◌-◌, ◌*◌, ◌≤◌, true, cond, ◌≡◌, List, [], ◌∷◌, length, set, take, drop, eqb}
+use Rattle.std.specs.Prelude.{ℕ, ◌+◌, ◌-◌, ◌*◌, ◌≤◌, true, cond, ◌≡◌, List, [], ◌∷◌, length, set, take, drop, eqb, Option}
 use Rattle.psc.specs.Table.{Known}
 use Rattle.text.specs.Lists.{same_bytes, overlay}
 use Rattle.ident.specs.declared.consignor.Consignor.{Consignor}
@@ -100,7 +100,7 @@ pub record AmendmentOff (file : List ℕ) (c : Counts) (last : ℕ) (old : List 
 -- ---- the latest action of a batch, whose entry starts at `last`, taken off
 pub record Undoable (file journal : List ℕ) (c : Counts) (last : ℕ) : Type 0 where
   pub known : Known
-  pub seen : Consignor
+  pub seen : Option Consignor
   pub found : Found known (batch_of file journal c) seen last
   pub some : c.used ≡ 0 → ⊥
 

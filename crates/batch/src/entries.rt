@@ -1,101 +1,91 @@
 // The entries of the journal, as they are read and written.
-ghost use Rattle.std.specs.Prelude.{◌≡◌, ◌+◌, ◌-◌, ◌≤◌, length, get_or};
+ghost use Rattle.std.specs.Prelude.{◌≡◌, ◌+◌, ◌-◌, ◌≤◌, length};
 ghost use Rattle.text.specs.Lists.{overlay};
 ghost use Rattle.batch.specs.Batch.{zeros};
-ghost use Rattle.batch.specs.Entries.{body_length, head, entry, head_stands, kind_at};
+ghost use Rattle.batch.specs.Entries.{number_of_kind, number_of_found, body_length, head, entry, starts_entry, kind_at};
+
+// What an entry does.
+#[derive(Clone, Copy, Debug, PartialEq, Eq)]
+pub enum Kind {
+    Addition,
+    Cancellation,
+    Amendment,
+}
+
+impl Kind {
+    // As many bytes as it carries.
+    pub(crate) fn body_length(self) -> usize
+        ensures { (result ≡ body_length (number_of_kind self)) × (13 ≤ result) × (result ≤ 399) }
+    {
+        match self {
+            Kind::Cancellation => 13,
+            Kind::Addition | Kind::Amendment => 399,
+        }
+    }
+
+    // The first four bytes of its entry: the entry's length, then its number, both little-endian.
+    fn head(self) -> [u8; 4]
+        ensures { result ≡ head (number_of_kind self) }
+    {
+        match self {
+            Kind::Addition => [147, 1, 1, 0],
+            Kind::Cancellation => [17, 0, 2, 0],
+            Kind::Amendment => [147, 1, 3, 0],
+        }
+    }
+}
 
 // ---- reading
 
-// Whether an entry of this kind starts at a place and ends by `end`: its length in two bytes, its kind in two.
-fn starts_entry(
-    journal: &[u8],
-    end: usize,
-    at: usize,
-    size: usize,
-    low: u8,
-    high: u8,
-    kind: u8,
-) -> bool
-    requires { (at ≤ end) × (end ≤ length journal.now) × (4 ≤ size) }
-    ensures { result ≡ head_stands journal.now end at size low high kind }
+// Whether an entry of this kind starts at a place and ends by `end`.
+fn starts_entry(journal: &[u8], end: usize, at: usize, kind: Kind) -> bool
+    requires { (at ≤ end) × (end ≤ length journal.now) }
+    ensures { result ≡ starts_entry journal.now end at (number_of_kind kind) }
 {
-    if end - at < size {
+    if end - at < kind.body_length() + 4 {
         return false;
     }
-    (journal[at] == low)
-        & (journal[at + 1] == high)
-        & (journal[at + 2] == kind)
-        & (journal[at + 3] == 0)
+    let head = kind.head();
+    (journal[at] == head[0])
+        & (journal[at + 1] == head[1])
+        & (journal[at + 2] == head[2])
+        & (journal[at + 3] == head[3])
 }
 
-// The kind of the entry at a place; 0 where there is none of the house form.
-pub(crate) fn kind_at(journal: &[u8], end: usize, at: usize) -> u8
+// The kind of the entry at a place, if there is one of the house form.
+pub(crate) fn kind_at(journal: &[u8], end: usize, at: usize) -> Option<Kind>
     requires { (at ≤ end) × (end ≤ length journal.now) }
-    ensures { result ≡ kind_at journal.now end at }
+    ensures { number_of_found result ≡ kind_at journal.now end at }
 {
-    if starts_entry(journal, end, at, 403, 147, 1, 1) {
-        return 1;
+    if starts_entry(journal, end, at, Kind::Addition) {
+        return Some(Kind::Addition);
     }
-    if starts_entry(journal, end, at, 17, 17, 0, 2) {
-        return 2;
+    if starts_entry(journal, end, at, Kind::Cancellation) {
+        return Some(Kind::Cancellation);
     }
-    if starts_entry(journal, end, at, 403, 147, 1, 3) {
-        return 3;
+    if starts_entry(journal, end, at, Kind::Amendment) {
+        return Some(Kind::Amendment);
     }
-    0
-}
-
-pub(crate) fn body_length(kind: u8) -> usize
-    ensures { (result ≡ body_length kind) × (13 ≤ result) × (result ≤ 399) }
-{
-    if kind == 2 { 13 } else { 399 }
+    None
 }
 
 // ---- writing
 
-fn copy(part: &mut [u8], s: &[u8])
-    requires { length part.old ≡ length s.now }
-    ensures { part.new ≡ s.now }
-{
-    let mut i = 0;
-    while i < s.len() {
-        part[i] = s[i];
-        i += 1;
-    }
-}
-
-// The first byte of an entry's length; the second is 0 for a cancellation, else 1.
-fn low_byte(kind: u8) -> u8
-    ensures { result ≡ get_or (head kind) 0 0 }
-{
-    if kind == 2 { 17 } else { 147 }
-}
-
-fn high_byte(kind: u8) -> u8
-    ensures { result ≡ get_or (head kind) 1 0 }
-{
-    if kind == 2 { 0 } else { 1 }
-}
-
 // Writes an entry into a part that is as long.
-fn write_entry(part: &mut [u8], kind: u8, body: &[u8])
+fn write_entry(part: &mut [u8], kind: Kind, body: &[u8])
     requires { length part.old ≡ length body.now + 4 }
-    ensures { part.new ≡ entry kind body.now }
+    ensures { part.new ≡ entry (number_of_kind kind) body.now }
 {
-    let n = part.len();
-    copy(&mut part[4..n], body);
-    part[0] = low_byte(kind);
-    part[1] = high_byte(kind);
-    part[2] = kind;
-    part[3] = 0;
+    part[..4].copy_from_slice(&kind.head());
+    part[4..].copy_from_slice(body);
 }
 
-pub(crate) fn put_entry(journal: &mut [u8], at: usize, kind: u8, body: &[u8])
+pub(crate) fn put_entry(journal: &mut [u8], at: usize, kind: Kind, body: &[u8])
     requires { (length body.now ≤ 399) × (at + (length body.now + 4) ≤ length journal.old) }
-    ensures { journal.new ≡ overlay journal.old at (entry kind body.now) }
+    ensures { journal.new ≡ overlay journal.old at (entry (number_of_kind kind) body.now) }
 {
-    let e = at + (body.len() + 4);
-    write_entry(&mut journal[at..e], kind, body);
+    let end = at + (body.len() + 4);
+    write_entry(&mut journal[at..end], kind, body);
 }
 
 // Zeroes the journal from `last` up to `used`.
@@ -103,5 +93,5 @@ pub(crate) fn clear_entry(journal: &mut [u8], last: usize, used: usize)
     requires { (last ≤ used) × (used ≤ length journal.old) }
     ensures { journal.new ≡ overlay journal.old last (zeros (used - last)) }
 {
-    text::fill(&mut journal[last..used], 0);
+    journal[last..used].fill(0);
 }

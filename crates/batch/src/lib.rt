@@ -1,111 +1,38 @@
 // The open batch: a lent file buffer, a lent journal and counts by value; additions, amendments, cancellations and undo.
 #![tactic(auto)]
 
-ghost use Rattle.std.specs.Prelude.{◌≡◌, ◌+◌, ◌-◌, ◌*◌, ◌≤◌, ◌<◌, length};
+ghost use Rattle.std.specs.Prelude.{◌≡◌, [], ◌+◌, ◌-◌, ◌*◌, ◌≤◌, ◌<◌, length};
 ghost use Rattle.psc.specs.Search.{found};
 ghost use Rattle.posting.specs.Bounds.{Small};
-ghost use Rattle.posting.specs.File.{totals_over};
-ghost use Rattle.batch.specs.Places.{one_live_more, one_cancelled, amounts_replaced};
-ghost use Rattle.batch.specs.Work.{refused_at, Guarded, Countable, counts_after, Ready, Worked};
-ghost use Rattle.batch.specs.Batch.{same_totals, right_lengths, counts_of, no_counts, batch_of, Add, Amend, Cancel, Undo, Called, Opened};
+ghost use Rattle.batch.specs.Places.{action_held, one_live_more, one_cancelled, amounts_replaced};
+ghost use Rattle.batch.specs.Work.{Guarded, action_totals, Countable, counts_after, Ready, Worked};
+ghost use Rattle.text.specs.Answers.{answered};
+ghost use Rattle.batch.specs.Entries.{number_of_kind, action_of};
+ghost use Rattle.batch.specs.History.{call_of};
+ghost use Rattle.batch.specs.Batch.{right_lengths, counts_of, counts_or, no_counts, batch_of, Add, Amend, Cancel, Undo, Called, Opened};
 
 mod entries; // the entries of the journal
 mod places; // the places of the file buffer
 mod test; // whether file, journal and counts are what the entries make
 mod undoing; // the way back: the latest action taken off
 
-use entries::{body_length, clear_entry, put_entry};
+use entries::{Kind, clear_entry, put_entry};
 use fields::Hellers;
 use ident::Consignor;
-use places::{act, action_answer, record_number};
+use places::{Held, act};
 use posting::Totals;
-use psc::WRONG_TABLE;
-use text::{ACCEPTED, Answer, WRONG_LENGTH};
-
-// ---- refusals
-
-// Fewer journal bytes are left than the entry needs.
-const NO_ROOM: Answer = Answer {
-    code: 231,
-    place: 0,
-};
-
-// Undo: no entry stands in the journal.
-const NO_ENTRY: Answer = Answer {
-    code: 234,
-    place: 0,
-};
-
-// A buffer has a length that none may have.
-const WRONG_BUFFERS: Answer = Answer {
-    code: 235,
-    place: 0,
-};
-
-// File, journal and counts are not what the journal's entries make.
-const NOTHING_STANDS: Answer = Answer {
-    code: 237,
-    place: 0,
-};
+use test::Finding;
+use text::Refusal;
 
 // The four totals, the records held and the journal bytes used.
-#[derive(Clone, Copy)]
+#[derive(Clone, Copy, Debug, PartialEq, Eq, Default)]
 pub struct Counts {
     pub totals: Totals,
     pub held: usize,
     pub used: usize,
 }
 
-// What a call finds before its work: 235, 238 or 237, or 0, the first consignor that the records name, and where the latest entry starts.
-#[derive(Clone, Copy)]
-pub struct Gate {
-    pub answer: Answer,
-    pub seen: Consignor,
-    pub last: usize,
-}
-
-// What a call gives: its answer and the next counts.
-#[derive(Clone, Copy)]
-pub struct Outcome {
-    pub answer: Answer,
-    pub counts: Counts,
-}
-
 // ---- the state
-
-// The totals over the first n records of a file.
-fn totals_over(file: &[u8], n: usize) -> Totals
-    requires { (n ≤ 999) × (n * 401 ≤ length file.now) }
-    ensures { result ≡ totals_over file.now n }
-{
-    let mut t = Totals {
-        live: 0,
-        cancelled: 0,
-        cash: Hellers(0),
-        price: Hellers(0),
-    };
-    let mut i = 0;
-    while i < n {
-        let a = i * 401;
-        let e = a + 399;
-        t = t.plus(posting::brought(&file[a..e])).total_or(t);
-        i += 1;
-    }
-    t
-}
-
-fn same_totals(a: Totals, b: Totals) -> bool
-    ensures { result ≡ same_totals a b }
-{
-    let a_cash = a.cash;
-    let b_cash = b.cash;
-    let a_price = a.price;
-    let b_price = b.price;
-    (a.live == b.live)
-        & (a.cancelled == b.cancelled)
-        & (a_cash.0 == b_cash.0)
-        & (a_price.0 == b_price.0)
-}
 
 fn right_lengths(n: usize, m: usize) -> bool
     ensures { result ≡ right_lengths n m }
@@ -113,67 +40,29 @@ fn right_lengths(n: usize, m: usize) -> bool
     (n % 401 == 0) & (401 <= n) & (n <= 400_599) & (403 <= m) & (m <= 1_048_576)
 }
 
-fn refused_at(answer: Answer) -> Gate
-    ensures { result ≡ refused_at answer }
-{
-    Gate {
-        answer,
-        seen: Consignor::Nobody,
-        last: 0,
-    }
-}
-
 // What every call but opening checks first: 235, then 238, then 237.
-fn guard(file: &[u8], journal: &[u8], c: Counts, psc: &[u32]) -> Gate
+fn guard(file: &[u8], journal: &[u8], c: Counts, psc: &[u32]) -> Result<Finding, Refusal>
     ensures { Guarded psc.now (batch_of file.now journal.now c) result }
 {
     if !right_lengths(file.len(), journal.len()) {
-        return refused_at(WRONG_BUFFERS);
+        return Err(Refusal::WrongBuffers);
     }
     if !psc::right(psc) {
-        return refused_at(WRONG_TABLE);
+        return Err(Refusal::WrongTable);
     }
-    let found = test::test(file, journal, c, psc);
-    if !found.stands {
-        return refused_at(NOTHING_STANDS);
-    }
-    let seen = found.seen;
-    Gate {
-        answer: ACCEPTED,
-        seen,
-        last: found.last,
-    }
+    test::test(file, journal, c, psc).ok_or(Refusal::NothingStands)
 }
 
 // ---- amounts and counts
 
+// What is left of an amount.
 fn less(a: Hellers, b: Hellers) -> Hellers
     ensures { result.0 ≡ a.0 - b.0 }
 {
-    if b.0 <= a.0 {
-        Hellers(a.0 - b.0)
-    } else {
-        Hellers(0)
-    }
+    Hellers(a.0.saturating_sub(b.0))
 }
 
 impl Counts {
-    fn none() -> Self
-        ensures { result ≡ no_counts }
-    {
-        let totals = Totals {
-            live: 0,
-            cancelled: 0,
-            cash: Hellers(0),
-            price: Hellers(0),
-        };
-        Counts {
-            totals,
-            held: 0,
-            used: 0,
-        }
-    }
-
     // One live more, with its two amounts.
     fn one_live_more(self, cash: Hellers, price: Hellers) -> Self
         requires { (Small self.totals) × (self.held ≤ 999) × (cash.0 < 100000000000) × (price.0 < 100000000000) }
@@ -187,9 +76,9 @@ impl Counts {
             price,
         };
         Counts {
-            totals: t.plus(one).total_or(t),
+            totals: t.plus(one).unwrap_or(t),
             held: self.held + 1,
-            used: self.used,
+            ..self
         }
     }
 
@@ -199,19 +88,13 @@ impl Counts {
         ensures { result ≡ counts_of (one_cancelled self.totals cash.0 price.0) self.held self.used }
     {
         let t = self.totals;
-        let d = t.cash;
-        let p = t.price;
         let totals = Totals {
-            live: one_less(t.live),
+            live: t.live.saturating_sub(1),
             cancelled: t.cancelled + 1,
-            cash: less(d, cash),
-            price: less(p, price),
+            cash: less(t.cash, cash),
+            price: less(t.price, price),
         };
-        Counts {
-            totals,
-            held: self.held,
-            used: self.used,
-        }
+        Counts { totals, ..self }
     }
 
     // The amounts of one consignment replaced by others.
@@ -226,13 +109,10 @@ impl Counts {
         ensures { result ≡ counts_of (amounts_replaced self.totals old_cash.0 old_price.0 cash.0 price.0) self.held self.used }
     {
         let t = self.totals;
-        let d = t.cash;
-        let p = t.price;
         let rest = Totals {
-            live: t.live,
-            cancelled: t.cancelled,
-            cash: less(d, old_cash),
-            price: less(p, old_price),
+            cash: less(t.cash, old_cash),
+            price: less(t.price, old_price),
+            ..t
         };
         let new = Totals {
             live: 0,
@@ -240,11 +120,8 @@ impl Counts {
             cash,
             price,
         };
-        Counts {
-            totals: rest.plus(new).total_or(rest),
-            held: self.held,
-            used: self.used,
-        }
+        let totals = rest.plus(new).unwrap_or(rest);
+        Counts { totals, ..self }
     }
 
     // The journal grown by an entry.
@@ -252,52 +129,48 @@ impl Counts {
         requires { self.used + n < 2000000 }
         ensures { result ≡ counts_of self.totals self.held (self.used + n) }
     {
-        let totals = self.totals;
         Counts {
-            totals,
-            held: self.held,
             used: self.used + n,
+            ..self
         }
     }
 }
 
-fn one_less(n: u64) -> u64
-    ensures { result ≡ n - 1 }
+// The totals and the records held behind an acceptable action, from the file before it.
+fn counted(file: &[u8], c: Counts, kind: Kind, body: &[u8]) -> Counts
+    requires { Countable file.now c (number_of_kind kind) body.now }
+    ensures { result ≡ counts_of (action_totals (batch_of file.now [] c) (number_of_kind kind) body.now) (action_held c.held (number_of_kind kind)) c.used }
 {
-    if n == 0 { 0 } else { n - 1 }
+    let records = Held {
+        file,
+        count: c.held,
+    };
+    match kind {
+        Kind::Addition => c.one_live_more(posting::amount(body, 16), posting::amount(body, 17)),
+        Kind::Amendment => {
+            let k = records.place_with(layout::field(body, 1)).unwrap();
+            let old = &file[k * 401..k * 401 + 399];
+            c.amounts_replaced(
+                posting::amount(old, 16),
+                posting::amount(old, 17),
+                posting::amount(body, 16),
+                posting::amount(body, 17),
+            )
+        }
+        Kind::Cancellation => {
+            let k = records.place_with(body).unwrap();
+            let rec = &file[k * 401..k * 401 + 399];
+            c.one_cancelled(posting::amount(rec, 16), posting::amount(rec, 17))
+        }
+    }
 }
 
-// The counts behind an acceptable action, from the file before it.
-fn counts_after(file: &[u8], c: Counts, kind: u8, body: &[u8]) -> Counts
-    requires { Countable file.now c kind body.now }
-    ensures { result ≡ counts_after file.now c kind body.now }
+// The same with its entry in the journal.
+fn counts_after(file: &[u8], c: Counts, kind: Kind, body: &[u8]) -> Counts
+    requires { Countable file.now c (number_of_kind kind) body.now }
+    ensures { result ≡ counts_after file.now c (number_of_kind kind) body.now }
 {
-    let held = c.held;
-    if kind == 1 {
-        let more = c.one_live_more(posting::amount(body, 16), posting::amount(body, 17));
-        return more.journal_grown(403);
-    }
-    if kind == 3 {
-        let k = record_number(file, layout::field(body, 1), held) - 1;
-        let a = k * 401;
-        let e = a + 399;
-        let old_cash = posting::amount(&file[a..e], 16);
-        let old_price = posting::amount(&file[a..e], 17);
-        let amended = c.amounts_replaced(
-            old_cash,
-            old_price,
-            posting::amount(body, 16),
-            posting::amount(body, 17),
-        );
-        return amended.journal_grown(403);
-    }
-    let k = record_number(file, body, held) - 1;
-    let a = k * 401;
-    let e = a + 399;
-    let cash = posting::amount(&file[a..e], 16);
-    let price = posting::amount(&file[a..e], 17);
-    let fewer = c.one_cancelled(cash, price);
-    fewer.journal_grown(body_length(kind) + 4)
+    counted(file, c, kind, body).journal_grown(kind.body_length() + 4)
 }
 
 // ---- the calls
@@ -307,118 +180,104 @@ fn enter(
     file: &mut [u8],
     journal: &mut [u8],
     c: Counts,
-    seen: Consignor,
-    kind: u8,
+    seen: Option<Consignor>,
+    kind: Kind,
     body: &[u8],
     psc: &[u32],
-) -> Outcome
+) -> Result<Counts, Refusal>
     requires { Ready file.old journal.old c }
-    ensures { Worked (found psc.now) file.old journal.old c seen kind body.now result file.new journal.new }
+    ensures { Worked (found psc.now) file.old journal.old c seen (number_of_kind kind) body.now result file.new journal.new }
 {
-    let held = c.held;
-    let used = c.used;
-    let size = body_length(kind);
+    let size = kind.body_length();
     if body.len() != size {
-        return Outcome {
-            answer: WRONG_LENGTH,
-            counts: c,
-        };
+        return Err(Refusal::WrongLength);
     }
-    let answer = action_answer(file, held, seen, kind, body, psc);
-    if answer.code != 0 {
-        return Outcome { answer, counts: c };
-    }
-    if journal.len() - used < size + 4 {
-        return Outcome {
-            answer: NO_ROOM,
-            counts: c,
-        };
+    let records = Held {
+        file: &*file,
+        count: c.held,
+    };
+    records.action_answer(seen, kind, body, psc)?;
+    if journal.len() - c.used < size + 4 {
+        return Err(Refusal::NoRoom);
     }
     let counts = counts_after(file, c, kind, body);
-    act(file, held, kind, body);
-    put_entry(journal, used, kind, body);
-    Outcome {
-        answer: ACCEPTED,
-        counts,
-    }
+    act(file, c.held, kind, body);
+    put_entry(journal, c.used, kind, body);
+    Ok(counts)
+}
+
+// An action on a batch: what stands in it first, then the work.
+fn perform(
+    file: &mut [u8],
+    journal: &mut [u8],
+    c: Counts,
+    kind: Kind,
+    body: &[u8],
+    psc: &[u32],
+) -> Result<Counts, Refusal>
+    ensures { Called psc.now (batch_of file.old journal.old c) (call_of (action_of kind body.now)) (answered result) (counts_or c result) file.new journal.new }
+{
+    let found = guard(file, journal, c, psc)?;
+    enter(file, journal, c, found.seen, kind, body, psc)
 }
 
 // Sets both buffers to zero and gives zero counts.
-pub fn open(file: &mut [u8], journal: &mut [u8]) -> Outcome
-    ensures { Opened (batch_of file.old journal.old no_counts) result.answer result.counts file.new journal.new }
+pub fn open(file: &mut [u8], journal: &mut [u8]) -> Result<Counts, Refusal>
+    ensures { Opened (batch_of file.old journal.old no_counts) (answered result) (counts_or no_counts result) file.new journal.new }
 {
-    let counts = Counts::none();
     if !right_lengths(file.len(), journal.len()) {
-        return Outcome {
-            answer: WRONG_BUFFERS,
-            counts,
-        };
+        return Err(Refusal::WrongBuffers);
     }
-    text::fill(file, 0);
-    text::fill(journal, 0);
-    Outcome {
-        answer: ACCEPTED,
-        counts,
-    }
+    file.fill(0);
+    journal.fill(0);
+    Ok(Counts::default())
 }
 
-pub fn add(file: &mut [u8], journal: &mut [u8], c: Counts, rec: &[u8], psc: &[u32]) -> Outcome
-    ensures { Called psc.now (batch_of file.old journal.old c) (Add rec.now) result.answer result.counts file.new journal.new }
+pub fn add(
+    file: &mut [u8],
+    journal: &mut [u8],
+    c: Counts,
+    rec: &[u8],
+    psc: &[u32],
+) -> Result<Counts, Refusal>
+    ensures { Called psc.now (batch_of file.old journal.old c) (Add rec.now) (answered result) (counts_or c result) file.new journal.new }
 {
-    let gate = guard(file, journal, c, psc);
-    let answer = gate.answer;
-    let seen = gate.seen;
-    if answer.code != 0 {
-        return Outcome { answer, counts: c };
-    }
-    enter(file, journal, c, seen, 1, rec, psc)
+    perform(file, journal, c, Kind::Addition, rec, psc)
 }
 
-pub fn amend(file: &mut [u8], journal: &mut [u8], c: Counts, rec: &[u8], psc: &[u32]) -> Outcome
-    ensures { Called psc.now (batch_of file.old journal.old c) (Amend rec.now) result.answer result.counts file.new journal.new }
+pub fn amend(
+    file: &mut [u8],
+    journal: &mut [u8],
+    c: Counts,
+    rec: &[u8],
+    psc: &[u32],
+) -> Result<Counts, Refusal>
+    ensures { Called psc.now (batch_of file.old journal.old c) (Amend rec.now) (answered result) (counts_or c result) file.new journal.new }
 {
-    let gate = guard(file, journal, c, psc);
-    let answer = gate.answer;
-    let seen = gate.seen;
-    if answer.code != 0 {
-        return Outcome { answer, counts: c };
-    }
-    enter(file, journal, c, seen, 3, rec, psc)
+    perform(file, journal, c, Kind::Amendment, rec, psc)
 }
 
-pub fn cancel(file: &mut [u8], journal: &mut [u8], c: Counts, id: &[u8], psc: &[u32]) -> Outcome
-    ensures { Called psc.now (batch_of file.old journal.old c) (Cancel id.now) result.answer result.counts file.new journal.new }
+pub fn cancel(
+    file: &mut [u8],
+    journal: &mut [u8],
+    c: Counts,
+    id: &[u8],
+    psc: &[u32],
+) -> Result<Counts, Refusal>
+    ensures { Called psc.now (batch_of file.old journal.old c) (Cancel id.now) (answered result) (counts_or c result) file.new journal.new }
 {
-    let gate = guard(file, journal, c, psc);
-    let answer = gate.answer;
-    let seen = gate.seen;
-    if answer.code != 0 {
-        return Outcome { answer, counts: c };
-    }
-    enter(file, journal, c, seen, 2, id, psc)
+    perform(file, journal, c, Kind::Cancellation, id, psc)
 }
 
 // Takes the latest entry off the journal and brings back file and counts.
-pub fn undo(file: &mut [u8], journal: &mut [u8], c: Counts, psc: &[u32]) -> Outcome
-    ensures { Called psc.now (batch_of file.old journal.old c) Undo result.answer result.counts file.new journal.new }
+pub fn undo(file: &mut [u8], journal: &mut [u8], c: Counts, psc: &[u32]) -> Result<Counts, Refusal>
+    ensures { Called psc.now (batch_of file.old journal.old c) Undo (answered result) (counts_or c result) file.new journal.new }
 {
-    let gate = guard(file, journal, c, psc);
-    let answer = gate.answer;
-    if answer.code != 0 {
-        return Outcome { answer, counts: c };
+    let found = guard(file, journal, c, psc)?;
+    if c.used == 0 {
+        return Err(Refusal::NoEntry);
     }
-    let used = c.used;
-    if used == 0 {
-        return Outcome {
-            answer: NO_ENTRY,
-            counts: c,
-        };
-    }
-    let last = gate.last;
-    let counts = undoing::take_back(file, journal, c, last);
-    clear_entry(journal, last, used);
-    Outcome {
-        answer: ACCEPTED,
-        counts,
-    }
+    let counts = undoing::take_back(file, journal, c, found.last);
+    clear_entry(journal, found.last, c.used);
+    Ok(counts)
 }

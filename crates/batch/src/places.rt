@@ -1,136 +1,119 @@
 // The places of the file buffer: the consignment with an identifier, what an action meets there, and what it makes of the file.
 ghost use Rattle.std.specs.Prelude.{◌≡◌, ◌+◌, ◌-◌, ◌*◌, ◌≤◌, ◌<◌, length};
-ghost use Rattle.posting.specs.File.{line_of};
+ghost use Rattle.posting.specs.File.{line_of, totals_over};
 ghost use Rattle.psc.specs.Search.{found};
-ghost use Rattle.batch.specs.Places.{record_number, live_answer, add_answer, amend_answer, cancel_answer, with_line, with_cancelled, action_answer, action_file, action_held};
+ghost use Rattle.text.specs.Answers.{answered};
+ghost use Rattle.batch.specs.Entries.{number_of_kind};
+ghost use Rattle.batch.specs.Places.{number_of_place, record_number, live_answer, add_answer, amend_answer, cancel_answer, with_line, with_cancelled, action_answer, action_file, action_held};
 ghost use Rattle.batch.specs.Work.{Acceptable};
 
+use crate::entries::Kind;
 use ident::Consignor;
-use posting::{OTHER_CONSIGNOR, TWICE};
-use text::{ACCEPTED, Answer};
+use posting::Totals;
+use text::Refusal;
 
-// Add: no place of 401 bytes is left.
-const NO_PLACE: Answer = Answer {
-    code: 230,
-    place: 0,
-};
+// The records that stand at the front of a file buffer.
+#[derive(Clone, Copy)]
+pub struct Held<'a> {
+    pub file: &'a [u8],
+    pub count: usize,
+    ghost few: { count ≤ 999 },
+    ghost inside: { count * 401 ≤ length file.now },
+}
 
-// Amend, cancel: the identifier is not present.
-const NOT_PRESENT: Answer = Answer {
-    code: 232,
-    place: 0,
-};
-
-// Amend, cancel: that consignment is cancelled.
-const CANCELLED: Answer = Answer {
-    code: 233,
-    place: 0,
-};
-
-// ---- the consignment with an identifier
-
-// The number, counted from 1, of the last of n records with this identifier; 0 where none has it.
-pub(crate) fn record_number(file: &[u8], id: &[u8], n: usize) -> usize
-    requires { (n ≤ 999) × (n * 401 ≤ length file.now) }
-    ensures { (result ≡ record_number file.now id.now n) × (result ≤ n) }
-{
-    let mut j = n;
-    while 0 < j {
-        let k = j - 1;
-        let a = k * 401;
-        let e = a + 13;
-        if ident::same(&file[a..e], id) {
-            return j;
+impl<'a> Held<'a> {
+    // Their totals.
+    pub(crate) fn totals(self) -> Totals
+        ensures { result ≡ totals_over self.entry.file.now self.entry.count }
+    {
+        let file = self.file;
+        let n = self.count;
+        let mut t = Totals::default();
+        for i in 0..n {
+            let start = i * 401;
+            t = t
+                .plus(posting::brought(&file[start..start + 399]))
+                .unwrap_or(t);
         }
-        j = k;
+        t
     }
-    0
-}
 
-// 232 where the identifier is not present, 233 where that consignment is cancelled.
-fn live_answer(file: &[u8], held: usize, id: &[u8]) -> Answer
-    requires { (held ≤ 999) × (held * 401 ≤ length file.now) }
-    ensures { result ≡ live_answer file.now held id.now }
-{
-    let found = record_number(file, id, held);
-    if found == 0 {
-        return NOT_PRESENT;
+    // The place of the last with this identifier.
+    pub(crate) fn place_with(self, id: &[u8]) -> Option<usize>
+        ensures { (number_of_place result ≡ record_number self.entry.file.now id.now self.entry.count) × (number_of_place result ≤ self.entry.count) }
+    {
+        let file = self.file;
+        let n = self.count;
+        for k in (0..n).rev() {
+            let start = k * 401;
+            if ident::same(&file[start..start + 13], id) {
+                return Some(k);
+            }
+        }
+        None
     }
-    let k = found - 1;
-    if file[k * 401 + 340] == b'0' {
-        return CANCELLED;
-    }
-    ACCEPTED
-}
 
-// ---- what an action meets; 231 is not judged here
+    // 232 where the identifier is not present, 233 where that consignment is cancelled.
+    fn live_answer(self, id: &[u8]) -> Result<(), Refusal>
+        ensures { answered result ≡ live_answer self.entry.file.now self.entry.count id.now }
+    {
+        let k = self.place_with(id).ok_or(Refusal::NotPresent)?;
+        let file = self.file;
+        if file[k * 401 + 340] == b'0' {
+            return Err(Refusal::Cancelled);
+        }
+        Ok(())
+    }
 
-// The consignor seen is the first that the records held name.
-fn add_answer(file: &[u8], held: usize, seen: Consignor, rec: &[u8], psc: &[u32]) -> Answer
-    requires { (held ≤ 999) × (held * 401 ≤ length file.now) }
-    ensures { result ≡ add_answer (found psc.now) file.now held seen rec.now }
-{
-    let check = record::answer(rec, psc, true);
-    let a = check.answer;
-    let consignor = check.consignor;
-    if a.code != 0 {
-        return a;
-    }
-    let found = record_number(file, layout::field(rec, 1), held);
-    if found != 0 {
-        return TWICE;
-    }
-    if seen.another(consignor) {
-        return OTHER_CONSIGNOR;
-    }
-    if held * 401 + 401 <= file.len() {
-        ACCEPTED
-    } else {
-        NO_PLACE
-    }
-}
+    // ---- what an action meets; 231 is not judged here
 
-fn amend_answer(file: &[u8], held: usize, rec: &[u8], psc: &[u32]) -> Answer
-    requires { (held ≤ 999) × (held * 401 ≤ length file.now) }
-    ensures { result ≡ amend_answer (found psc.now) file.now held rec.now }
-{
-    let a = record::answer(rec, psc, true).answer;
-    if a.code != 0 {
-        return a;
+    // The consignor seen is the first that they name.
+    fn add_answer(self, seen: Option<Consignor>, rec: &[u8], psc: &[u32]) -> Result<(), Refusal>
+        ensures { answered result ≡ add_answer (found psc.now) self.entry.file.now self.entry.count seen rec.now }
+    {
+        let check = record::answer(rec, psc, true);
+        check.answer?;
+        if self.place_with(layout::field(rec, 1)).is_some() {
+            return Err(Refusal::Repeated);
+        }
+        if ident::another(seen, check.consignor) {
+            return Err(Refusal::OtherConsignor);
+        }
+        if self.file.len() - self.count * 401 < 401 {
+            return Err(Refusal::NoPlace);
+        }
+        Ok(())
     }
-    live_answer(file, held, layout::field(rec, 1))
-}
 
-fn cancel_answer(file: &[u8], held: usize, id: &[u8]) -> Answer
-    requires { (held ≤ 999) × (held * 401 ≤ length file.now) }
-    ensures { result ≡ cancel_answer file.now held id.now }
-{
-    let a = ident::check(id);
-    if a.code != 0 {
-        return a;
+    fn amend_answer(self, rec: &[u8], psc: &[u32]) -> Result<(), Refusal>
+        ensures { answered result ≡ amend_answer (found psc.now) self.entry.file.now self.entry.count rec.now }
+    {
+        record::answer(rec, psc, true).answer?;
+        self.live_answer(layout::field(rec, 1))
     }
-    live_answer(file, held, id)
-}
 
-// The kinds are 1 for an addition, 3 for an amendment and 2, which is left, for a cancellation.
-pub(crate) fn action_answer(
-    file: &[u8],
-    held: usize,
-    seen: Consignor,
-    kind: u8,
-    body: &[u8],
-    psc: &[u32],
-) -> Answer
-    requires { (held ≤ 999) × (held * 401 ≤ length file.now) }
-    ensures { result ≡ action_answer (found psc.now) file.now held seen kind body.now }
-{
-    if kind == 1 {
-        return add_answer(file, held, seen, body, psc);
+    fn cancel_answer(self, id: &[u8]) -> Result<(), Refusal>
+        ensures { answered result ≡ cancel_answer self.entry.file.now self.entry.count id.now }
+    {
+        ident::check(id)?;
+        self.live_answer(id)
     }
-    if kind == 3 {
-        return amend_answer(file, held, body, psc);
+
+    pub(crate) fn action_answer(
+        self,
+        seen: Option<Consignor>,
+        kind: Kind,
+        body: &[u8],
+        psc: &[u32],
+    ) -> Result<(), Refusal>
+        ensures { answered result ≡ action_answer (found psc.now) self.entry.file.now self.entry.count seen (number_of_kind kind) body.now }
+    {
+        match kind {
+            Kind::Addition => self.add_answer(seen, body, psc),
+            Kind::Amendment => self.amend_answer(body, psc),
+            Kind::Cancellation => self.cancel_answer(body),
+        }
     }
-    cancel_answer(file, held, body)
 }
 
 // ---- what an action makes of the file
@@ -140,13 +123,8 @@ fn write_line(line: &mut [u8], rec: &[u8])
     requires { (length rec.now ≡ 399) × (length line.old ≡ 401) }
     ensures { line.new ≡ line_of rec.now }
 {
-    let mut i = 0;
-    while i < 399 {
-        line[i] = rec[i];
-        i += 1;
-    }
-    line[399] = 13;
-    line[400] = 10;
+    line[..399].copy_from_slice(rec);
+    line[399..].copy_from_slice(b"\r\n");
 }
 
 // Puts a record into place k: the middle part of the file is lent on, and all other bytes stay.
@@ -169,26 +147,37 @@ fn put_cancelled(file: &mut [u8], k: usize)
 }
 
 // An acceptable action, done.
-pub(crate) fn act(file: &mut [u8], held: usize, kind: u8, body: &[u8])
-    requires { Acceptable file.old held kind body.now }
-    ensures { file.new ≡ action_file file.old held kind body.now }
+pub(crate) fn act(file: &mut [u8], held: usize, kind: Kind, body: &[u8])
+    requires { Acceptable file.old held (number_of_kind kind) body.now }
+    ensures { file.new ≡ action_file file.old held (number_of_kind kind) body.now }
 {
-    if kind == 1 {
-        put_line(file, held, body);
-        return;
+    match kind {
+        Kind::Addition => put_line(file, held, body),
+        Kind::Amendment => {
+            let records = Held {
+                file: &*file,
+                count: held,
+            };
+            let k = records.place_with(layout::field(body, 1)).unwrap();
+            put_line(file, k, body);
+        }
+        Kind::Cancellation => {
+            let records = Held {
+                file: &*file,
+                count: held,
+            };
+            let k = records.place_with(body).unwrap();
+            put_cancelled(file, k);
+        }
     }
-    if kind == 3 {
-        let found = record_number(file, layout::field(body, 1), held);
-        put_line(file, found - 1, body);
-        return;
-    }
-    let found = record_number(file, body, held);
-    put_cancelled(file, found - 1);
 }
 
-pub(crate) fn held_after(held: usize, kind: u8) -> usize
+pub(crate) fn held_after(held: usize, kind: Kind) -> usize
     requires { held ≤ 999 }
-    ensures { result ≡ action_held held kind }
+    ensures { result ≡ action_held held (number_of_kind kind) }
 {
-    if kind == 1 { held + 1 } else { held }
+    match kind {
+        Kind::Addition => held + 1,
+        Kind::Amendment | Kind::Cancellation => held,
+    }
 }

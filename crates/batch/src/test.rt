@@ -5,118 +5,79 @@ ghost use Rattle.std.specs.Prelude.{◌≡◌, true, false, ◌+◌, ◌*◌, �
 ghost use Rattle.posting.specs.File.{line_of};
 ghost use Rattle.psc.specs.Search.{found};
 ghost use Rattle.batch.specs.Test.{Noted, live_in, Added, Amended, Cancelled, MarkedEntry, Stepping, Stepped, Fresh, WalkedTo, LineSame, Marked, LinesSame, ToTest, Tested};
+ghost use Rattle.batch.specs.Entries.{number_of_kind};
 ghost use Rattle.batch.specs.Batch.{batch_of, right_lengths};
 
-use crate::entries::{body_length, kind_at};
-use crate::places::held_after;
-use crate::{Counts, same_totals, totals_over};
+use crate::Counts;
+use crate::entries::{Kind, kind_at};
+use crate::places::{Held, held_after};
 use ident::Consignor;
+use index::Keyed;
 
-// How far a walk through the journal has come: whether all was well, records held, the first consignor that they name, bytes used, and where
-// the last entry starts.
+// How far a walk through the journal has come: records held, the first consignor that they name, bytes used, and where the last entry starts.
 #[derive(Clone, Copy)]
 pub struct Reached {
-    pub good: bool,
     pub held: usize,
-    pub seen: Consignor,
+    pub seen: Option<Consignor>,
     pub used: usize,
     pub last: usize,
 }
 
-// Where a consignment stands.
-#[derive(Clone, Copy)]
-pub enum Place {
-    At(usize),
-    Nowhere,
-}
-
-// Whether an entry passes, and the first consignor that is named with it.
-#[derive(Clone, Copy)]
-pub struct Marking {
-    pub good: bool,
-    pub seen: Consignor,
-}
-
-// What the test finds: whether something stands in the batch, the first consignor that its records name, and where its latest entry starts.
+// What stands in a batch: the first consignor that its records name, and where its latest entry starts.
 #[derive(Clone, Copy)]
 pub struct Finding {
-    pub stands: bool,
-    pub seen: Consignor,
+    pub seen: Option<Consignor>,
     pub last: usize,
 }
 
-fn nothing() -> Finding
-    ensures { result.stands ≡ false }
-{
-    Finding {
-        stands: false,
-        seen: Consignor::Nobody,
-        last: 0,
-    }
-}
-
-fn not_marked(seen: Consignor) -> Marking
-    ensures { result.good ≡ false }
-{
-    Marking { good: false, seen }
-}
-
 // The live consignment with this identifier, of those that are noted.
-fn live_place(file: &[u8], held: usize, id: &[u8], marks: &[u32], table: &[u16]) -> Place
+fn live_place(file: &[u8], held: usize, id: &[u8], marks: &[u32], table: &[u16]) -> Option<usize>
     requires { Noted file.now held marks.now table.now }
     ensures { result ≡ live_in file.now held marks.now id.now }
 {
-    let found = index::find(table, file, 0, id);
-    if found == 0 {
-        return Place::Nowhere;
-    }
-    let k = found - 1;
+    let records = Keyed { file, from: 0 };
+    let k = records.find(table, id)?;
     if marks[k] % 2 == 1 {
-        return Place::Nowhere;
+        return None;
     }
-    Place::At(k)
+    Some(k)
 }
 
 // An addition: a place is left, the record is good and names no other consignor, the lent file has its identifier there, and no other has it.
+// Gives the first consignor that is named with it.
 fn mark_addition(
     file: &[u8],
     held: usize,
-    seen: Consignor,
+    seen: Option<Consignor>,
     used: usize,
     rec: &[u8],
     psc: &[u32],
     marks: &mut [u32],
     table: &mut [u16],
-) -> Marking
+) -> Option<Option<Consignor>>
     requires { Noted file.now held marks.old table.old × (used < 2000000) }
     ensures { Added (found psc.now) file.now held seen used rec.now marks.old table.old result marks.new table.new }
 {
-    let a = held * 401;
-    let e = a + 13;
-    if file.len() - a < 401 {
-        return not_marked(seen);
+    let start = held * 401;
+    if file.len() - start < 401 {
+        return None;
     }
     let check = record::answer(rec, psc, true);
-    let answer = check.answer;
-    let consignor = check.consignor;
-    if answer.code != 0 {
-        return not_marked(seen);
+    if check.answer.is_err() {
+        return None;
     }
-    if seen.another(consignor) {
-        return not_marked(seen);
+    if ident::another(seen, check.consignor) {
+        return None;
     }
-    if !ident::same(&file[a..e], layout::field(rec, 1)) {
-        return not_marked(seen);
+    if !ident::same(&file[start..start + 13], layout::field(rec, 1)) {
+        return None;
     }
-    let before = index::put(table, file, 0, held);
-    if before != 0 {
-        return not_marked(seen);
+    let records = Keyed { file, from: 0 };
+    if records.put(table, held).is_some() {
+        return None;
     }
     marks[held] = (used * 2) as u32;
-    Marking {
-        good: true,
-        seen: seen.or_named(consignor),
-    }
+    Some(seen.or(check.consignor))
 }
 
 // An amendment: the record is good, and a live consignment has its identifier.
@@ -132,11 +93,10 @@ fn mark_amendment(
     requires { Noted file.now held marks.old table.now × (used < 2000000) }
     ensures { Amended (found psc.now) file.now held used rec.now marks.old result marks.new }
 {
-    let answer = record::answer(rec, psc, true).answer;
-    if answer.code != 0 {
+    if record::answer(rec, psc, true).answer.is_err() {
         return false;
     }
-    let Place::At(k) = live_place(file, held, layout::field(rec, 1), marks, table) else {
+    let Some(k) = live_place(file, held, layout::field(rec, 1), marks, table) else {
         return false;
     };
     marks[k] = (used * 2) as u32;
@@ -148,41 +108,38 @@ fn mark_cancellation(file: &[u8], held: usize, id: &[u8], marks: &mut [u32], tab
     requires { Noted file.now held marks.old table.now }
     ensures { Cancelled file.now held id.now marks.old result marks.new }
 {
-    let answer = ident::check(id);
-    if answer.code != 0 {
+    if ident::check(id).is_err() {
         return false;
     }
-    let Place::At(k) = live_place(file, held, id, marks, table) else {
+    let Some(k) = live_place(file, held, id, marks, table) else {
         return false;
     };
     marks[k] += 1;
     true
 }
 
-// The entry that starts at `used`, of this kind and with this body, tested, and marked if it passes.
+// The entry that starts at `used`, of this kind and with this body, tested, and marked if it passes. Gives the first consignor that is named then.
 fn mark_entry(
     file: &[u8],
     held: usize,
-    seen: Consignor,
+    seen: Option<Consignor>,
     used: usize,
-    kind: u8,
+    kind: Kind,
     body: &[u8],
     psc: &[u32],
     marks: &mut [u32],
     table: &mut [u16],
-) -> Marking
+) -> Option<Option<Consignor>>
     requires { Noted file.now held marks.old table.old × (used < 2000000) }
-    ensures { MarkedEntry (found psc.now) file.now held seen used kind body.now marks.old table.old result marks.new table.new }
+    ensures { MarkedEntry (found psc.now) file.now held seen used (number_of_kind kind) body.now marks.old table.old result marks.new table.new }
 {
-    if kind == 1 {
-        return mark_addition(file, held, seen, used, body, psc, marks, table);
+    match kind {
+        Kind::Addition => mark_addition(file, held, seen, used, body, psc, marks, table),
+        Kind::Amendment => {
+            mark_amendment(file, held, used, body, psc, marks, table).then_some(seen)
+        }
+        Kind::Cancellation => mark_cancellation(file, held, body, marks, table).then_some(seen),
     }
-    if kind == 3 {
-        let good = mark_amendment(file, held, used, body, psc, marks, table);
-        return Marking { good, seen };
-    }
-    let good = mark_cancellation(file, held, body, marks, table);
-    Marking { good, seen }
 }
 
 // Tests the entry at `used`.
@@ -191,46 +148,26 @@ fn step(
     journal: &[u8],
     end: usize,
     held: usize,
-    seen: Consignor,
+    seen: Option<Consignor>,
     used: usize,
     psc: &[u32],
     marks: &mut [u32],
     table: &mut [u16],
-) -> Reached
+) -> Option<Reached>
     requires { Stepping file.now journal.now end held used marks.old table.old }
     ensures { Stepped (found psc.now) file.now journal.now end held seen used marks.old table.old result marks.new table.new }
 {
-    let kind = kind_at(journal, end, used);
-    if kind == 0 {
-        return Reached {
-            good: false,
-            held,
-            seen,
-            used,
-            last: used,
-        };
-    }
-    let a = used + 4;
-    let e = a + body_length(kind);
-    let marked = mark_entry(
-        file,
-        held,
-        seen,
-        used,
-        kind,
-        &journal[a..e],
-        psc,
-        marks,
-        table,
-    );
-    let seen = marked.seen;
-    Reached {
-        good: marked.good,
+    let kind = kind_at(journal, end, used)?;
+    let start = used + 4;
+    let next = start + kind.body_length();
+    let body = &journal[start..next];
+    let seen = mark_entry(file, held, seen, used, kind, body, psc, marks, table)?;
+    Some(Reached {
         held: held_after(held, kind),
         seen,
-        used: e,
+        used: next,
         last: used,
-    }
+    })
 }
 
 // Walks through the journal's entries up to `end`.
@@ -241,31 +178,23 @@ fn walk(
     psc: &[u32],
     marks: &mut [u32],
     table: &mut [u16],
-) -> Reached
+) -> Option<Reached>
     requires { Fresh file.now journal.now end marks.old table.old }
     ensures { WalkedTo (found psc.now) file.now journal.now end table.old result marks.new table.new }
 {
-    let mut held = 0;
-    let mut seen = Consignor::Nobody;
-    let mut used = 0;
-    let mut last = 0;
-    while used < end {
-        let w = step(file, journal, end, held, seen, used, psc, marks, table);
-        if !w.good {
-            return w;
-        }
-        held = w.held;
-        seen = w.seen;
-        used = w.used;
-        last = w.last;
+    let mut at = Reached {
+        held: 0,
+        seen: None,
+        used: 0,
+        last: 0,
+    };
+    // Entries have two lengths, and only the bytes say which: so the next place is not counted, but what the step has come to.
+    while at.used < end {
+        at = step(
+            file, journal, end, at.held, at.seen, at.used, psc, marks, table,
+        )?;
     }
-    Reached {
-        good: true,
-        held,
-        seen,
-        used,
-        last,
-    }
+    Some(at)
 }
 
 // Whether a line of the file is the record with its line end, cancelled or as it is.
@@ -295,16 +224,14 @@ fn lines_same(file: &[u8], journal: &[u8], held: usize, marks: &[u32]) -> bool
     requires { Marked file.now journal.now held marks.now }
     ensures { LinesSame file.now journal.now held marks.now result }
 {
-    let mut k = 0;
-    while k < held {
-        let a = k * 401;
-        let e = a + 401;
-        let from = marks[k] as usize / 2 + 4;
-        let to = from + 399;
-        if !line_same(&file[a..e], &journal[from..to], marks[k] % 2 == 1) {
+    for k in 0..held {
+        let start = k * 401;
+        let mark = marks[k];
+        let from = mark as usize / 2 + 4;
+        let line = &file[start..start + 401];
+        if !line_same(line, &journal[from..from + 399], mark % 2 == 1) {
             return false;
         }
-        k += 1;
     }
     true
 }
@@ -317,61 +244,66 @@ fn test_with(
     psc: &[u32],
     marks: &mut [u32],
     table: &mut [u16],
-) -> Finding
+) -> Option<Finding>
     requires { ToTest file.now journal.now marks.old table.old }
     ensures { Tested (found psc.now) (batch_of file.now journal.now c) result }
 {
-    let used = c.used;
-    let held = c.held;
-    let totals = c.totals;
-    let m = journal.len();
-    if m < used {
-        return nothing();
+    if journal.len() < c.used {
+        return None;
     }
-    let w = walk(file, journal, used, psc, marks, table);
-    if !w.good {
-        return nothing();
+    let reached = walk(file, journal, c.used, psc, marks, table)?;
+    if reached.held != c.held {
+        return None;
     }
-    if w.held != held {
-        return nothing();
+    if !lines_same(file, journal, c.held, marks) {
+        return None;
     }
-    if !lines_same(file, journal, held, marks) {
-        return nothing();
+    if !text::zero(&file[c.held * 401..]) {
+        return None;
     }
-    let n = file.len();
-    if !text::zero(&file[held * 401..n]) {
-        return nothing();
+    if !text::zero(&journal[c.used..]) {
+        return None;
     }
-    if !text::zero(&journal[used..m]) {
-        return nothing();
+    let records = Held {
+        file,
+        count: c.held,
+    };
+    if records.totals() != c.totals {
+        return None;
     }
-    let stands = same_totals(totals_over(file, held), totals);
-    let seen = w.seen;
-    Finding {
-        stands,
-        seen,
-        last: w.last,
-    }
+    Some(Finding {
+        seen: reached.seen,
+        last: reached.last,
+    })
+}
+
+// The test with so many marks, and so many slots of the index.
+fn test_in<const PLACES: usize, const SLOTS: usize>(
+    file: &[u8],
+    journal: &[u8],
+    c: Counts,
+    psc: &[u32],
+) -> Option<Finding>
+    requires { (right_lengths (length file.now) (length journal.now) ≡ true) × (length file.now / 401 ≤ PLACES) × (length file.now / 401 + 1 < SLOTS) × (PLACES ≤ 999) × (SLOTS ≤ 2048) }
+    ensures { Tested (found psc.now) (batch_of file.now journal.now c) result }
+{
+    let mut marks = [0u32; PLACES];
+    let mut table = [0u16; SLOTS];
+    test_with(file, journal, c, psc, &mut marks, &mut table)
 }
 
 // What stands in a batch with buffers of the right lengths.
-pub(crate) fn test(file: &[u8], journal: &[u8], c: Counts, psc: &[u32]) -> Finding
+pub(crate) fn test(file: &[u8], journal: &[u8], c: Counts, psc: &[u32]) -> Option<Finding>
     requires { right_lengths (length file.now) (length journal.now) ≡ true }
     ensures { Tested (found psc.now) (batch_of file.now journal.now c) result }
 {
     let places = file.len() / 401;
     // Marks and table are cleared at each call, so there are few for a small file; and slots twice as many as places, so that walks are short.
     if places < 64 {
-        let mut marks = [0u32; 64];
-        let mut table = [0u16; 128];
-        return test_with(file, journal, c, psc, &mut marks[..64], &mut table[..128]);
+        test_in::<64, 128>(file, journal, c, psc)
+    } else if places < 256 {
+        test_in::<256, 512>(file, journal, c, psc)
+    } else {
+        test_in::<999, 2048>(file, journal, c, psc)
     }
-    if places < 256 {
-        let mut marks = [0u32; 256];
-        let mut table = [0u16; 512];
-        return test_with(file, journal, c, psc, &mut marks[..256], &mut table[..512]);
-    }
-    let mut marks = [0u32; 999];
-    let mut table = [0u16; 2048];
-    test_with(file, journal, c, psc, &mut marks[..999], &mut table[..2048])
 }

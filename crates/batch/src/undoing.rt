@@ -3,11 +3,12 @@
 ghost use Rattle.std.specs.Prelude.{◌≡◌, ◌+◌, ◌-◌, ◌*◌, ◌≤◌, ◌<◌, length};
 ghost use Rattle.posting.specs.Bounds.{Small};
 ghost use Rattle.batch.specs.Batch.{counts_of};
+ghost use Rattle.batch.specs.Entries.{number_of_kind};
 ghost use Rattle.batch.specs.Undoing.{without_line, with_blank, one_live_less, one_revived, found_at, Entries, RecordBefore, Added, AdditionOff, Sought, CancellationOff, Amended, AmendmentOff, Undoable, TakenBack};
 
-use crate::entries::{body_length, kind_at};
-use crate::places::{put_line, record_number};
-use crate::{Counts, less, one_less};
+use crate::entries::{Kind, kind_at};
+use crate::places::{Held, put_line};
+use crate::{Counts, less};
 use fields::Hellers;
 use posting::Totals;
 
@@ -18,9 +19,8 @@ fn clear_line(file: &mut [u8], k: usize)
     requires { (k ≤ 999) × (k * 401 + 401 ≤ length file.old) }
     ensures { file.new ≡ without_line file.old k }
 {
-    let a = k * 401;
-    let e = a + 401;
-    text::fill(&mut file[a..e], 0);
+    let start = k * 401;
+    file[start..start + 401].fill(0);
 }
 
 // Makes the status of the record at place k blank.
@@ -41,18 +41,16 @@ fn one_live_less(c: Counts, cash: Hellers, price: Hellers) -> Counts
     ensures { result ≡ counts_of (one_live_less c.totals cash.0 price.0) (c.held - 1) c.used }
 {
     let t = c.totals;
-    let d = t.cash;
-    let p = t.price;
     let totals = Totals {
-        live: one_less(t.live),
-        cancelled: t.cancelled,
-        cash: less(d, cash),
-        price: less(p, price),
+        live: t.live.saturating_sub(1),
+        cash: less(t.cash, cash),
+        price: less(t.price, price),
+        ..t
     };
     Counts {
         totals,
         held: c.held - 1,
-        used: c.used,
+        ..c
     }
 }
 
@@ -66,45 +64,31 @@ fn one_revived(c: Counts, cash: Hellers, price: Hellers) -> Counts
     let p = t.price;
     let totals = Totals {
         live: t.live + 1,
-        cancelled: one_less(t.cancelled),
+        cancelled: t.cancelled.saturating_sub(1),
         cash: Hellers(d.0 + cash.0),
         price: Hellers(p.0 + price.0),
     };
-    Counts {
-        totals,
-        held: c.held,
-        used: c.used,
-    }
-}
-
-// The journal used up to `last` only.
-fn used_up_to(c: Counts, last: usize) -> Counts
-    ensures { result ≡ counts_of c.totals c.held last }
-{
-    let totals = c.totals;
-    Counts {
-        totals,
-        held: c.held,
-        used: last,
-    }
+    Counts { totals, ..c }
 }
 
 // ---- the record before an amendment
 
 // Where the latest record with this identifier is carried, once the entry at `at` is looked at.
-fn looked_at(journal: &[u8], at: usize, kind: u8, id: &[u8], found: usize) -> usize
+fn looked_at(journal: &[u8], at: usize, kind: Kind, id: &[u8], found: usize) -> usize
     requires { (at + 17 ≤ length journal.now) × (at < 2000000) }
-    ensures { result ≡ found_at journal.now at kind id.now found }
+    ensures { result ≡ found_at journal.now at (number_of_kind kind) id.now found }
 {
-    if kind == 2 {
-        return found;
+    match kind {
+        Kind::Cancellation => found,
+        Kind::Addition | Kind::Amendment => {
+            let start = at + 4;
+            if ident::same(&journal[start..start + 13], id) {
+                at
+            } else {
+                found
+            }
+        }
     }
-    let a = at + 4;
-    let e = a + 13;
-    if ident::same(&journal[a..e], id) {
-        return at;
-    }
-    found
 }
 
 // Where the latest entry before `end` starts that carries a record with this identifier.
@@ -115,9 +99,9 @@ fn record_before(journal: &[u8], end: usize, id: &[u8]) -> usize
     let mut found = 0;
     let mut at = 0;
     while at < end {
-        let kind = kind_at(journal, end, at);
+        let kind = kind_at(journal, end, at).unwrap();
         found = looked_at(journal, at, kind, id, found);
-        at += body_length(kind) + 4;
+        at += kind.body_length() + 4;
     }
     found
 }
@@ -129,10 +113,12 @@ fn addition_off(file: &mut [u8], c: Counts, last: usize, rec: &[u8]) -> Counts
     requires { Added file.old c }
     ensures { AdditionOff file.old c last rec.now result file.new }
 {
-    let held = c.held;
     let fewer = one_live_less(c, posting::amount(rec, 16), posting::amount(rec, 17));
-    clear_line(file, held - 1);
-    used_up_to(fewer, last)
+    clear_line(file, c.held - 1);
+    Counts {
+        used: last,
+        ..fewer
+    }
 }
 
 // A cancellation: the status of its consignment becomes blank.
@@ -140,15 +126,18 @@ fn cancellation_off(file: &mut [u8], c: Counts, last: usize, id: &[u8]) -> Count
     requires { Sought file.old c id.now }
     ensures { CancellationOff file.old c last id.now result file.new }
 {
-    let held = c.held;
-    let k = record_number(file, id, held) - 1;
-    let a = k * 401;
-    let e = a + 399;
-    let cash = posting::amount(&file[a..e], 16);
-    let price = posting::amount(&file[a..e], 17);
+    let records = Held {
+        file: &*file,
+        count: c.held,
+    };
+    let k = records.place_with(id).unwrap();
+    let start = k * 401;
+    let end = start + 399;
+    let cash = posting::amount(&file[start..end], 16);
+    let price = posting::amount(&file[start..end], 17);
     let more = one_revived(c, cash, price);
     put_blank(file, k);
-    used_up_to(more, last)
+    Counts { used: last, ..more }
 }
 
 // An amendment: the record before it comes back into its place.
@@ -156,20 +145,24 @@ fn amendment_off(file: &mut [u8], c: Counts, last: usize, old: &[u8]) -> Counts
     requires { Amended file.old c old.now }
     ensures { AmendmentOff file.old c last old.now result file.new }
 {
-    let held = c.held;
-    let k = record_number(file, layout::field(old, 1), held) - 1;
-    let a = k * 401;
-    let e = a + 399;
-    let cash = posting::amount(&file[a..e], 16);
-    let price = posting::amount(&file[a..e], 17);
+    let records = Held {
+        file: &*file,
+        count: c.held,
+    };
+    let k = records.place_with(layout::field(old, 1)).unwrap();
+    let start = k * 401;
+    let end = start + 399;
     let amended = c.amounts_replaced(
-        cash,
-        price,
+        posting::amount(&file[start..end], 16),
+        posting::amount(&file[start..end], 17),
         posting::amount(old, 16),
         posting::amount(old, 17),
     );
     put_line(file, k, old);
-    used_up_to(amended, last)
+    Counts {
+        used: last,
+        ..amended
+    }
 }
 
 // Takes the latest action off file and counts; its entry in the journal starts at `last`.
@@ -177,18 +170,14 @@ pub(crate) fn take_back(file: &mut [u8], journal: &[u8], c: Counts, last: usize)
     requires { Undoable file.old journal.now c last }
     ensures { TakenBack file.old journal.now c last result file.new }
 {
-    let used = c.used;
-    let kind = kind_at(journal, used, last);
-    let a = last + 4;
-    if kind == 1 {
-        let e = a + 399;
-        return addition_off(file, c, last, &journal[a..e]);
+    let kind = kind_at(journal, c.used, last).unwrap();
+    let start = last + 4;
+    match kind {
+        Kind::Addition => addition_off(file, c, last, &journal[start..start + 399]),
+        Kind::Cancellation => cancellation_off(file, c, last, &journal[start..start + 13]),
+        Kind::Amendment => {
+            let before = record_before(journal, last, &journal[start..start + 13]) + 4;
+            amendment_off(file, c, last, &journal[before..before + 399])
+        }
     }
-    let e = a + 13;
-    if kind == 2 {
-        return cancellation_off(file, c, last, &journal[a..e]);
-    }
-    let b = record_before(journal, last, &journal[a..e]) + 4;
-    let end = b + 399;
-    amendment_off(file, c, last, &journal[b..end])
 }

@@ -16,9 +16,8 @@ use Rattle.text.proofs.Lists.{same_exactly}
 use Rattle.ident.specs.Identifier.{right_id}
 use Rattle.ident.specs.Calls.{parts_of}
 use Rattle.layout.specs.Layout.{field_of}
-use Rattle.fields.specs.declared.others.MainReading.TheVariants as Main
-use Rattle.fields.specs.declared.numbers.NumberReading.{NumberReading}
-use Rattle.fields.specs.declared.numbers.NumberReading.TheVariants as Number
+use Rattle.fields.specs.declared.reading.Reading.TheVariants as Reading
+use Rattle.fields.specs.Readings.{NumberReading}
 use Rattle.fields.specs.Numbers.{read_count, malformed_number, absent_number, number_in}
 use Rattle.fields.specs.Others.{read_status, read_main, malformed_main, absent_main}
 use Rattle.fields.specs.Services.{services_in}
@@ -70,9 +69,9 @@ rule_kept c (r ∷ rs) h = go (broken r) refl (eqb r.code c) h (rule_kept c rs)
 
 -- ---- a main identifier that is filled is read
 main_filled : (f : List ℕ) → is_blank f ≡ false → malformed_main (read_main f) ≡ false → absent_main (read_main f) ≡ false
-main_filled f filled good = go (way Main.Absent Main.Malformed 13 f (right_id f) (Main.Value (parts_of f)))
+main_filled f filled good = go (way Reading.Absent Reading.Malformed 13 f (right_id f) (Reading.Value (parts_of f)))
   where
-    go : Way Main.Absent Main.Malformed 13 f (right_id f) (Main.Value (parts_of f)) (read_main f) → absent_main (read_main f) ≡ false
+    go : Way Reading.Absent Reading.Malformed 13 f (right_id f) (Reading.Value (parts_of f)) (read_main f) → absent_main (read_main f) ≡ false
     go (blank e s) = absurd (clash (ap is_blank s ∙ spaces_blank 13) filled)
     go (valued e p) = ap absent_main e
     go (neither e) = absurd (clash (ap malformed_main e) good)
@@ -82,9 +81,9 @@ count_low : (f : List ℕ) → malformed_number (read_count f) ≡ false → abs
 count_low f good there = go (read_count f) refl good there
   where
     go : (n : NumberReading) → read_count f ≡ n → malformed_number n ≡ false → absent_number n ≡ false → 1 ≤ number_in n
-    go Number.Absent e g t = absurd (clash refl t)
-    go (Number.Value v) e g t = ((count_exactly f v).0 e).least
-    go Number.Malformed e g t = absurd (clash refl g)
+    go Reading.Absent e g t = absurd (clash refl t)
+    go (Reading.Value v) e g t = ((count_exactly f v).0 e).least
+    go Reading.Malformed e g t = absurd (clash refl g)
 
 -- ---- the rule on pieces that travel together
 asked_for : (s b : Bool) → (s && b) ≡ false → s ≡ true → b ≡ false

@@ -36,7 +36,6 @@ record Failing (test : ℕ → Bool) (ns : List ℕ) : Type 0 where
   fails : test (get_or ns at 0) ≡ false
 
 every_fails : (test : ℕ → Bool) (ns : List ℕ) → every test ns ≡ false → Failing test ns
-unfolding every
 every_fails test [] h = absurd (clash refl h)
 every_fails test (n ∷ ns) h = go (test n) refl h (every_fails test ns)
   where

@@ -4,7 +4,6 @@
 use Rattle.std.specs.Prelude.{ℕ, ◌≡◌, refl, Bool, true, ◌&&◌, List, [], ◌∷◌, ◌++◌, eqb}
 use Prim.Native.String.{String}
 use Rattle.text.specs.Answers.{or_else}
-use Rattle.text.specs.Bytes.{every, run}
 use Rattle.text.specs.Lists.{same_bytes}
 use Rattle.text.specs.Numbers.{number_after, digits, decimal_places_up_to}
 use Rattle.text.specs.Texts.{bytes, all_hold}
@@ -23,9 +22,8 @@ use Rattle.fields.specs.ServiceTexts.{all_different}
 use Rattle.fields.specs.Examples.{in_field}
 use Rattle.record.specs.Rules.{asked_of, given_of, travel_of, table, record_answer}
 use Rattle.record.specs.Examples.{listed, laid_out, record_of, sent_to, first_piece, second_piece}
-use Rattle.posting.specs.declared.FileAnswer.{FileAnswer}
 use Rattle.posting.specs.declared.Totals.{Totals}
-use Rattle.posting.specs.File.{up_to, repeats, line_answer, totals, no_totals, brought, totals_over, break_from, file_answer, file_check}
+use Rattle.posting.specs.File.{FileAnswer, up_to, repeats, line_answer, totals, no_totals, brought, totals_over, break_from, file_answer, file_check}
 use Rattle.posting.specs.Records.{lines_of}
 use Rattle.posting.specs.Sums.{kept}
 use Rattle.closing.specs.Sets.{in_set, set_under, same_pieces, none_missing, offence}
@@ -56,5 +54,5 @@ claims =
     ∷ []
 
 pub shown : all_hold claims ≡ true
-unfolding rises_from right_table holds bytes all_hold every run number_after same_bytes shape_of weighted ends_right right_id parts_of field_of framed days_in read_date read_time filled contains is_host is_mail is_money digits decimal_places_up_to numbers_from codes number_for words has_code with_code added read_by how_many several_sizes all_different asked_of given_of travel_of table record_answer in_field laid_out record_of sent_to consignor_in another_in first_piece second_piece or_else repeats line_answer brought totals_over break_from file_answer file_check up_to kept in_set set_under same_pieces none_missing offence place_of first_that earliest closing_of closing_answer piece totalling answers claims
+unfolding rises_from right_table holds bytes all_hold number_after same_bytes shape_of weighted ends_right right_id parts_of field_of framed days_in read_date read_time filled contains is_host is_mail is_money digits decimal_places_up_to numbers_from codes number_for words has_code with_code added read_by how_many several_sizes all_different asked_of given_of travel_of table record_answer in_field laid_out record_of sent_to consignor_in another_in first_piece second_piece or_else repeats line_answer brought totals_over break_from file_answer file_check up_to kept in_set set_under same_pieces none_missing offence place_of first_that earliest closing_of closing_answer piece totalling answers claims
 shown = refl

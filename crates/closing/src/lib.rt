@@ -1,132 +1,100 @@
 // Closing a file: an accepted one, of which every set that travels together is whole; and the line that reports it.
 #![tactic(auto)]
 
-ghost use Rattle.std.specs.Prelude.{◌≡◌, false, ◌≤◌, ◌<◌, length};
+ghost use Rattle.std.specs.Prelude.{◌≡◌, false, ◌+◌, ◌≤◌, ◌<◌};
 ghost use Rattle.text.specs.Promises.{Gives};
-ghost use Rattle.posting.specs.File.{record_at, records_in, refused};
+ghost use Rattle.posting.specs.File.{record_at, records_in, file_answered};
 ghost use Rattle.posting.specs.Report.{Report};
 ghost use Rattle.closing.specs.Sets.{in_set};
-ghost use Rattle.closing.specs.Closing.{records_of, place_of, closing_of, closing_answer};
-ghost use Rattle.closing.specs.Links.{WholeRecords, NoneInSet, AllLinked, ToLink, WholeBefore};
+ghost use Rattle.closing.specs.Closing.{records_of, place_of, closing_answer};
+ghost use Rattle.closing.specs.Links.{NoneInSet, AllLinked, WholeBefore, some_place, Closed};
 
 mod links; // each record and the live one before it in its set
+mod records; // the records of an accepted file
 mod sets; // the pieces of one set
 
-use fields::Hellers;
-use links::{MAIN, is_live, link_all, live_from, record_at};
-use posting::{FileAnswer, Reported, Totals};
+use links::{by_main, is_live, link_all, live_from};
+use posting::{Break, Totals};
+use records::Records;
 use sets::{count_in, offence};
+use text::Refusal;
 
-// Some set that travels together is not whole.
-const SET_NOT_WHOLE: u32 = 240;
-
-fn set_refused(number: u32, place: u32) -> FileAnswer
-    ensures { result ≡ refused 240 number place }
+// Whether record i is in a set: live, and with a main identifier.
+fn in_set(records: &Records, i: usize) -> bool
+    requires { i < records_in records.now.file.now }
+    ensures { result ≡ in_set (record_at records.now.file.now i) }
 {
-    FileAnswer {
-        code: SET_NOT_WHOLE,
-        number,
-        place,
-        totals: Totals {
-            live: 0,
-            cancelled: 0,
-            cash: Hellers(0),
-            price: Hellers(0),
-        },
-    }
+    let rec = records.at(i);
+    !text::blank(layout::field(rec, 22)) && is_live(rec)
 }
 
-// Whether a record is in a set: live, and with a main identifier.
-fn in_set(rec: &[u8]) -> bool
-    ensures { result ≡ in_set rec.now }
+fn any_in_set(records: &Records) -> bool
+    ensures { result ≡ false → NoneInSet records.now.file.now }
 {
-    if text::blank(layout::field(rec, 22)) {
-        return false;
-    }
-    is_live(rec)
-}
-
-fn any_in_set(file: &[u8]) -> bool
-    requires { WholeRecords file.now }
-    ensures { result ≡ false → NoneInSet file.now }
-{
-    let n = file.len() / 401;
-    let mut i = 0;
-    while i < n {
-        if in_set(record_at(file, i)) {
-            return true;
-        }
-        i += 1;
-    }
-    false
+    (0..records.len()).any(|i| in_set(records, i))
 }
 
 // Where the set of record i offends. It is looked through for its earliest live record alone: behind a whole one no other record can offend.
-fn place_of(file: &[u8], table: &[u16], links: &[u16], i: usize) -> u32
-    requires { WholeRecords file.now × AllLinked file.now table.now links.now × (i < records_in file.now) × WholeBefore file.now i }
-    ensures { result ≡ place_of (records_of file.now) (record_at file.now i) }
+fn place_of(records: &Records, table: &[u16], links: &[Option<u16>], i: usize) -> Option<u32>
+    requires { AllLinked records.now.file.now table.now links.now × (i < records_in records.now.file.now) × WholeBefore records.now.file.now i }
+    ensures { result ≡ some_place (place_of (records_of records.now.file.now) (record_at records.now.file.now i)) }
 {
-    let rec = record_at(file, i);
-    if !in_set(rec) {
-        return 0;
+    if !in_set(records, i) || links[i].is_some() {
+        return None;
     }
-    if links[i] != 0 {
-        return 0;
-    }
-    let found = index::find(table, file, MAIN, layout::field(rec, 22));
-    let last = live_from(file, links, found);
-    offence(file, links, last, count_in(rec, 24))
+    let rec = records.at(i);
+    let found = by_main(records).find(table, layout::field(rec, 22));
+    let last = live_from(records, links, found);
+    offence(records, links, last, count_in(rec, 24))
 }
 
-// The first record whose set offends, where all are linked; else the answer to the accepted file.
-fn first_offence(good: FileAnswer, file: &[u8], table: &[u16], links: &[u16]) -> FileAnswer
-    requires { WholeRecords file.now × AllLinked file.now table.now links.now }
-    ensures { result ≡ closing_of good (records_of file.now) }
+// The first record whose set offends, where all are linked.
+fn first_offence(records: &Records, table: &[u16], links: &[Option<u16>]) -> Result<(), Break>
+    requires { AllLinked records.now.file.now table.now links.now }
+    ensures { Closed records.now.file.now result }
 {
-    let n = file.len() / 401;
-    let mut i = 0;
-    while i < n {
-        let place = place_of(file, table, links, i);
-        if place != 0 {
-            return set_refused(i as u32 + 1, place);
+    for i in 0..records.len() {
+        if let Some(place) = place_of(records, table, links, i) {
+            return Err(Break {
+                refusal: Refusal::SetNotWhole(place),
+                number: i as u32 + 1,
+            });
         }
-        i += 1;
     }
-    good
+    Ok(())
 }
 
-fn closed(good: FileAnswer, file: &[u8], table: &mut [u16], links: &mut [u16]) -> FileAnswer
-    requires { ToLink file.now table.old links.old }
-    ensures { result ≡ closing_of good (records_of file.now) }
+// Each record has a link, and the index more slots than there are records.
+fn closed<const LINKS: usize, const SLOTS: usize>(records: &Records) -> Result<(), Break>
+    requires { (records_in records.now.file.now ≤ LINKS) × (LINKS + 1 < SLOTS) × (SLOTS ≤ 2048) }
+    ensures { Closed records.now.file.now result }
 {
-    link_all(file, table, links);
-    first_offence(good, file, table, links)
+    let mut table = [0u16; SLOTS];
+    let mut links = [None; LINKS];
+    link_all(records, &mut table, &mut links);
+    first_offence(records, &table, &links)
 }
 
-// The closing check, under a table of the postcodes that exist.
-pub fn check(file: &[u8], psc: &[u32]) -> FileAnswer
-    ensures { Gives (closing_answer psc.now file.now) result }
+// The closing check, under a table of the postcodes that exist: the totals, or the first break.
+pub fn check(file: &[u8], psc: &[u32]) -> Result<Totals, Break>
+    ensures { Gives (closing_answer psc.now file.now) (file_answered result) }
 {
-    let answer = posting::check(file, psc);
-    if answer.code != 0 {
-        return answer;
-    }
-    if !any_in_set(file) {
-        return answer;
+    let totals = posting::check(file, psc)?;
+    let records = Records { file };
+    if !any_in_set(&records) {
+        return Ok(totals);
     }
     // Slots and links are cleared at each call, so there are few for a small file.
-    if file.len() / 401 < 64 {
-        let mut few = [0u16; 128];
-        let mut some = [0u16; 64];
-        return closed(answer, file, &mut few[..128], &mut some[..64]);
+    if records.len() < 64 {
+        closed::<64, 128>(&records)?;
+    } else {
+        closed::<1024, 2048>(&records)?;
     }
-    let mut table = [0u16; 2048];
-    let mut links = [0u16; 1024];
-    closed(answer, file, &mut table[..2048], &mut links[..1024])
+    Ok(totals)
 }
 
-// The line for a file that is to be closed, into a lent buffer.
-pub fn report(file: &[u8], psc: &[u32], out: &mut [u8]) -> Reported
+// The line for a file that is to be closed, into a lent buffer; gives its length.
+pub fn report(file: &[u8], psc: &[u32], out: &mut [u8]) -> Result<usize, Refusal>
     ensures { Report (closing_answer psc.now file.now) out.old result out.new }
 {
     posting::put_report(check(file, psc), out)

@@ -1,68 +1,71 @@
 // Each record of a file is linked to the live one before it with the same main identifier. So the pieces of a set are found from its last one on.
-ghost use Rattle.std.specs.Prelude.{◌≡◌, ◌+◌, ◌*◌, ◌≤◌, ◌<◌, length};
+ghost use Rattle.std.specs.Prelude.{◌≡◌, ◌+◌, ◌<◌, IfSome};
 ghost use Rattle.layout.specs.Layout.{field_of};
 ghost use Rattle.fields.specs.Others.{read_status};
-ghost use Rattle.posting.specs.File.{record_at, records_in};
+ghost use Rattle.posting.specs.File.{records_in};
 ghost use Rattle.posting.specs.Sums.{is_live};
-ghost use Rattle.closing.specs.Links.{last_live, live_from, Linked, WholeRecords, RoomFor, NowNoted, ToLink, AllLinked};
+ghost use Rattle.closing.specs.Links.{main_from, live_from, Linked, RoomFor, NowNoted, ToLink, AllLinked};
 
+use crate::records::Records;
 use fields::StatusReading;
+use index::Keyed;
 
-// Where field 22, the main identifier, starts in a record.
-pub(crate) const MAIN: usize = 362;
+// Where field 22, the main identifier, starts in a record. A constant of its own, since layout gives fields and no places.
+const MAIN: usize = 362;
 
-// Record i, without its line end.
-pub(crate) fn record_at(file: &[u8], i: usize) -> &[u8]
-    requires { i * 401 + 401 ≤ length file.now }
-    ensures { result.now ≡ record_at file.now i }
+// The records by their main identifiers.
+pub(crate) fn by_main<'a>(records: &Records<'a>) -> Keyed<'a>
+    ensures { (result.file.now ≡ records.entry.now.file.now) × (result.from ≡ main_from) }
 {
-    let start = i * 401;
-    &file[start..start + 399]
+    Keyed {
+        file: records.file,
+        from: MAIN,
+    }
 }
 
 pub(crate) fn is_live(rec: &[u8]) -> bool
     ensures { result ≡ is_live (read_status (field_of rec.now 19)) }
 {
-    match fields::read_status(layout::field(rec, 19)) {
-        StatusReading::Live => true,
-        StatusReading::Cancelled => false,
-        StatusReading::Malformed => false,
-    }
+    matches!(
+        fields::read_status(layout::field(rec, 19)),
+        StatusReading::Live
+    )
 }
 
-// The record before place `at`, or where it is cancelled the live one that it is linked to: one more than its place, or 0.
-pub(crate) fn live_from(file: &[u8], links: &[u16], at: usize) -> usize
-    requires { (at < 1000) × (at * 401 ≤ length file.now) × Linked file.now at links.now }
-    ensures { (result ≡ live_from file.now at) × (result ≤ at) }
+// Record i, or where it is cancelled the live one that it is linked to.
+pub(crate) fn live_from(
+    records: &Records,
+    links: &[Option<u16>],
+    at: Option<usize>,
+) -> Option<usize>
+    requires { IfSome at (λ i. (i < records_in records.now.file.now) × Linked records.now.file.now (i + 1) links.now) }
+    ensures { result ≡ live_from records.now.file.now at }
 {
-    if at == 0 {
-        return 0;
-    }
-    let i = at - 1;
-    if is_live(record_at(file, i)) {
+    let i = at?;
+    if is_live(records.at(i)) {
         return at;
     }
-    links[i] as usize
+    links[i].map(usize::from)
 }
 
 // The live record before record i with its main identifier. Those before are noted and linked, and this one is noted then, too.
-fn live_before(file: &[u8], table: &mut [u16], links: &[u16], i: usize) -> usize
-    requires { (i < 1000) × (i * 401 + 401 ≤ length file.now) × RoomFor file.now i table.old × Linked file.now i links.now }
-    ensures { NowNoted file.now i table.old table.new result × (result ≤ i) }
+fn live_before(
+    records: &Records,
+    table: &mut [u16],
+    links: &[Option<u16>],
+    i: usize,
+) -> Option<usize>
+    requires { (i < records_in records.now.file.now) × RoomFor records.now.file.now i table.old × Linked records.now.file.now i links.now }
+    ensures { NowNoted records.now.file.now i table.old table.new result }
 {
-    let before = index::put(table, file, MAIN, i);
-    live_from(file, links, before)
+    live_from(records, links, by_main(records).put(table, i))
 }
 
-pub(crate) fn link_all(file: &[u8], table: &mut [u16], links: &mut [u16])
-    requires { ToLink file.now table.old links.old }
-    ensures { AllLinked file.now table.new links.new }
+pub(crate) fn link_all(records: &Records, table: &mut [u16], links: &mut [Option<u16>])
+    requires { ToLink records.now.file.now table.old links.old }
+    ensures { AllLinked records.now.file.now table.new links.new }
 {
-    let n = file.len() / 401;
-    let mut i = 0;
-    while i < n {
-        let before = live_before(file, table, links, i);
-        links[i] = before as u16;
-        i += 1;
+    for i in 0..records.len() {
+        links[i] = live_before(records, table, links, i).map(|place| place as u16);
     }
 }

@@ -13,8 +13,9 @@ use mir.Val.{Fits}
 use lib.Dec.{eqb, leb, ltb}
 use lib.ListN.{length, get_or, take, drop, set, replicate, length-append, length-set}
 use lib.Seq.{get_or-drop, take_at, drop_at, set_at, drop-drop, length-take-le}
-use Rattle.text.specs.Answers.{answer, accepted}
-use Rattle.text.specs.Bytes.{is_digit, all_digits, is_blank, every}
+use Rattle.std.specs.Prelude.{Option, Some, None, SomeIff, IsSomeAnd, MatchOption}
+use Rattle.text.specs.Answers.{answer, accepted, wrong_length}
+use Rattle.text.specs.Bytes.{is_digit, all_digits, is_blank}
 use Rattle.text.specs.Lists.{part, overlay}
 use Rattle.text.specs.Numbers.{number_after, number_of, number_of_first, digits, decimal_places}
 use Rattle.text.proofs.Booleans.{both}
@@ -24,23 +25,19 @@ use Rattle.text.proofs.Decimals.{decimal_places_at_most}
 use Rattle.text.proofs.Numbers.{few, ten_grows, number_below, length_digits, digit_bounds}
 use Rattle.fields.specs.declared.amounts.Grams.{Grams}
 use Rattle.fields.specs.declared.amounts.Hellers.{Hellers}
-use Rattle.fields.specs.declared.amounts.Sum.TheVariants.{Total, TooLarge}
-use Rattle.fields.specs.declared.amounts.WeightReading.{WeightReading}
-use Rattle.fields.specs.declared.amounts.WeightReading.TheVariants as Weight
-use Rattle.fields.specs.declared.amounts.MoneyReading.{MoneyReading}
-use Rattle.fields.specs.declared.amounts.MoneyReading.TheVariants as Money
-use Rattle.fields.specs.Amounts.{is_weight, grams_in, grams, read_weight, weight_text, crown_digits, is_money, hellers_in, hellers, read_money, absent_or_zero_money, money_text}
+use Rattle.fields.specs.declared.reading.Reading.TheVariants.{Absent, Value, Malformed}
+use Rattle.fields.specs.Readings.{WeightReading, MoneyReading}
+use Rattle.fields.specs.Amounts.{is_weight, grams_in, weight_text, crown_digits, is_money, hellers_in, absent_or_zero_money, money_text}
 use Rattle.fields.specs.Calls.{has_money_text, money_bytes, has_weight_text, weight_bytes, Written, MoneyWritten, WeightWritten, sum_of_hellers}
-use Rattle.fields.proofs.Frames.{frame_good, frame_bad}
 
 -- ---- the sum of two amounts
-pub sum_fits : (a b : Hellers) → b.0 < 2 ^ 64 → a.0 ≤ 18446744073709551615 - b.0 → Total (record { 0 = a.0 + b.0 }) ≡ sum_of_hellers a b
+pub sum_is : (a b : Hellers) (s : Option ℕ) (r : Option Hellers) → SomeIff s (a.0 + b.0 < 2 ^ 64) (a.0 + b.0)
+    → MatchOption s (r ≡ None) (λ x. IsSomeAnd r (λ h. h.0 ≡ x)) → r ≡ sum_of_hellers a b
 unfolding sum_of_hellers
-sum_fits a b l h = rw (lt-ltb (a.0 + b.0) (2 ^ 64) (omega arith))
-
-pub sum_large : (a b : Hellers) → 18446744073709551615 - b.0 < a.0 → TooLarge ≡ sum_of_hellers a b
-unfolding sum_of_hellers
-sum_large a b h = rw (le-ltb (a.0 + b.0) (2 ^ 64) (omega arith))
+sum_is a b (Some x) (Some h) fits is =
+    rw (lt-ltb (a.0 + b.0) (2 ^ 64) fits.0) (ap (λ (n : ℕ). Some (record { 0 = n })) (is ∙ fits.1))
+sum_is a b (Some x) None fits is = absurd is
+sum_is a b None r large is = rw (le-ltb (a.0 + b.0) (2 ^ 64) (omega (arith, large))) is
 
 -- ---- weight
 module _ (f : List ℕ) (p : Bool) (long : length f ≡ 6) (ep : p ≡ is_digit (get_or f 0 0)) where
@@ -48,7 +45,6 @@ module _ (f : List ℕ) (p : Bool) (long : length f ≡ 6) (ep : p ≡ is_digit 
   first = eqb (get_or f 0 0) 32 || p && not (eqb (get_or f 0 0) 48)
 
   weight_is : is_weight f ≡ (first && is_digit (get_or f 1 0) && eqb (get_or f 2 0) 46 && (is_digit (get_or f 3 0) && (is_digit (get_or f 4 0) && (is_digit (get_or f 5 0) && true))))
-  unfolding every
   weight_is = rw (ep, spelled 6 f long)
 
   pub weight_first : not first ≡ true → false ≡ is_weight f
@@ -75,15 +71,6 @@ module _ (f : List ℕ) (p : Bool) (long : length f ≡ 6) (ep : p ≡ is_digit 
 
           pub weight_ones : (o : Bool) → not t ≡ false → o ≡ is_digit (get_or f 5 0) → o ≡ is_weight f
           weight_ones o yt eo = rw (behind_dot, not-false h yh, ← et, not-false t yt, ← eo, and-true o)
-
-module _ (f : List ℕ) (b g : Bool) (long : length f ≡ 6) (eb : b ≡ is_blank f) (nb : b ≡ false) (eg : g ≡ is_weight f) where
-  pub weight_value : (k m : ℕ) → g ≡ true → k ≡ number_of_first 16 (part f 0 2) → m ≡ number_of_first 16 (part f 3 6) → grams (k * 1000 + m) ≡ read_weight f
-  weight_value k m t ek em =
-      rw (ek, em, few f 0 2 (omega arith), few f 3 6 (omega arith))
-      (frame_good Weight.Absent Weight.Malformed (grams (grams_in f)) 6 f (is_weight f) b long eb nb (sym eg ∙ t))
-
-  pub weight_bad : g ≡ false → Weight.Malformed ≡ read_weight f
-  weight_bad t = frame_bad Weight.Absent Weight.Malformed (grams (grams_in f)) 6 f (is_weight f) b long eb nb (sym eg ∙ t)
 
 -- ---- money
 module _ (f : List ℕ) (n : ℕ) (pre : (length f ≡ 12) × (n ≡ crown_digits f)) where
@@ -156,16 +143,6 @@ module _ (f : List ℕ) (n : ℕ) (pre : (length f ≡ 12) × (n ≡ crown_digit
   pub hellers_are : (c p : ℕ) → c ≡ number_of_first 16 (part f 0 n) → p ≡ number_of_first 16 (part f (n + 1) (n + 3)) → c * 100 + p ≡ hellers_in f
   hellers_are c p ec ep = rw (ec, ep, few f 0 n (omega (arith, nine_digits)), few f (n + 1) (n + 3) (omega arith), pre.1)
 
-module _ (f : List ℕ) (b g : Bool) (n : ℕ) (long : length f ≡ 12) (eb : b ≡ is_blank f) (nb : b ≡ false) (eg : g ≡ is_money f) where
-  pub money_value : (v : ℕ) → g ≡ true → v ≡ hellers_in f → hellers v ≡ read_money f
-  money_value v t e = rw e (frame_good Money.Absent Money.Malformed (hellers (hellers_in f)) 12 f (is_money f) b long eb nb (sym eg ∙ t))
-
-  pub money_bad : g ≡ false → Money.Malformed ≡ read_money f
-  money_bad t = frame_bad Money.Absent Money.Malformed (hellers (hellers_in f)) 12 f (is_money f) b long eb nb (sym eg ∙ t)
-
-pub money_good : (f : List ℕ) (g : Bool) → g ≡ is_money f → g ≡ true → is_money f ≡ true
-money_good f g eg t = sym eg ∙ t
-
 -- ---- what a weight weighs
 weight_small : (f : List ℕ) → length f ≡ 6 → is_weight f ≡ true → (number_of (part f 0 2) ≤ 99) × (number_of (part f 3 6) ≤ 999)
 unfolding number_after
@@ -182,16 +159,19 @@ weight_small f long h =
     small true e g = omega (arith, eqb-true (get_or f 0 0) 32 e)
     small false e g = (digit_bounds (get_or f 0 0) (both (is_digit (get_or f 0 0)) (not (eqb (get_or f 0 0) 48)) g).0).1
 
--- what the code multiplies and adds up has 64 bits
-module _ (f : List ℕ) (g : Bool) (k m : ℕ) (long : length f ≡ 6) (eg : g ≡ is_weight f) (good : g ≡ true) (ek : k ≡ number_of_first 16 (part f 0 2)) where
+-- what the code multiplies and adds up has 64 bits, and is the grams
+module _ (f : List ℕ) (k m : ℕ) (pre : (length f ≡ 6) × (is_weight f ≡ true)) (ek : k ≡ number_of_first 16 (part f 0 2)) where
   kilos_small : k ≤ 99
-  kilos_small = omega (arith, few f 0 2 (omega arith), weight_small f long (sym eg ∙ good))
+  kilos_small = omega (arith, few f 0 2 (omega arith), weight_small f pre.0 pre.1)
 
   pub kilos_fit : Fits w64 (k * 1000)
   kilos_fit = record { fits = omega (arith, kilos_small) }
 
   pub grams_fit : m ≡ number_of_first 16 (part f 3 6) → Fits w64 (k * 1000 + m)
-  grams_fit em = record { fits = omega (arith, kilos_small, few f 3 6 (omega arith), weight_small f long (sym eg ∙ good)) }
+  grams_fit em = record { fits = omega (arith, kilos_small, few f 3 6 (omega arith), weight_small f pre.0 pre.1) }
+
+  pub grams_are : m ≡ number_of_first 16 (part f 3 6) → k * 1000 + m ≡ grams_in f
+  grams_are em = rw (ek, em, few f 0 2 (omega arith), few f 3 6 (omega arith))
 
 -- ---- writing
 pub tens_space : (v : ℕ) → v < 10000 → 32 ≡ cond (ltb v 10000) 32 (48 + v / 10000)
@@ -262,7 +242,7 @@ module _ (s t w : List ℕ) (v n : ℕ) (pre : (length s ≡ 12) × (v < 1000000
 
 -- ---- the writers
 module _ (width : ℕ) (has : Bool) (text s : List ℕ) where
-  pub write_size : (length s ≡ width → ⊥) → Written width has text s (answer 236 0) s
+  pub write_size : (length s ≡ width → ⊥) → Written width has text s wrong_length s
   write_size n = record { answers = rw (ne_eqb (length s) width n); bytes = rw (ne_eqb (length s) width n) }
 
   pub write_none : length s ≡ width → has ≡ false → Written width has text s (answer 210 0) s
@@ -272,39 +252,39 @@ module _ (width : ℕ) (has : Bool) (text s : List ℕ) where
   write_done t e h g = record { answers = rw (eq-eqb (length s) width e, h); bytes = rw (eq-eqb (length s) width e, h) g }
 
 module _ (s : List ℕ) (m : MoneyReading) (long : length s ≡ 12) where
-  pub money_blank : (t : List ℕ) → m ≡ Money.Absent → t ≡ replicate (length s) 32 → MoneyWritten s m accepted t
+  pub money_blank : (t : List ℕ) → m ≡ Absent → t ≡ replicate (length s) 32 → MoneyWritten s m accepted t
   unfolding has_money_text money_bytes
   money_blank t e g = rw e (write_done 12 true (replicate 12 32) s t long refl (g ∙ rw long))
 
-  pub money_over : (h : Hellers) → m ≡ Money.Value h → 100000000000 ≤ h.0 → MoneyWritten s m (answer 210 0) s
+  pub money_over : (h : Hellers) → m ≡ Value h → 100000000000 ≤ h.0 → MoneyWritten s m (answer 210 0) s
   unfolding has_money_text money_bytes
   money_over h e l = rw e (write_none 12 (ltb h.0 100000000000) (money_text h.0) s long (le-ltb h.0 100000000000 l))
 
-  pub money_text_lem : (t : List ℕ) (h : Hellers) → m ≡ Money.Value h → h.0 < 100000000000 → t ≡ money_text h.0 → MoneyWritten s m accepted t
+  pub money_text_lem : (t : List ℕ) (h : Hellers) → m ≡ Value h → h.0 < 100000000000 → t ≡ money_text h.0 → MoneyWritten s m accepted t
   unfolding has_money_text money_bytes
   money_text_lem t h e l g = rw e (write_done 12 (ltb h.0 100000000000) (money_text h.0) s t long (lt-ltb h.0 100000000000 l) g)
 
-  pub money_malformed : m ≡ Money.Malformed → MoneyWritten s m (answer 210 0) s
+  pub money_malformed : m ≡ Malformed → MoneyWritten s m (answer 210 0) s
   unfolding has_money_text money_bytes
   money_malformed e = rw e (write_none 12 false (replicate 12 32) s long refl)
 
 module _ (s : List ℕ) (m : WeightReading) (long : length s ≡ 6) where
-  pub weight_blank : (t : List ℕ) → m ≡ Weight.Absent → t ≡ replicate (length s) 32 → WeightWritten s m accepted t
+  pub weight_blank : (t : List ℕ) → m ≡ Absent → t ≡ replicate (length s) 32 → WeightWritten s m accepted t
   unfolding has_weight_text weight_bytes
   weight_blank t e g = rw e (write_done 6 true (replicate 6 32) s t long refl (g ∙ rw long))
 
-  pub weight_over : (h : Grams) → m ≡ Weight.Value h → 100000 ≤ h.0 → WeightWritten s m (answer 210 0) s
+  pub weight_over : (h : Grams) → m ≡ Value h → 100000 ≤ h.0 → WeightWritten s m (answer 210 0) s
   unfolding has_weight_text weight_bytes
   weight_over h e l = rw e (write_none 6 (ltb h.0 100000) (weight_text h.0) s long (le-ltb h.0 100000 l))
 
-  pub weight_text_lem : (t : List ℕ) (h : Grams) → m ≡ Weight.Value h → h.0 < 100000 → t ≡ weight_text h.0 → WeightWritten s m accepted t
+  pub weight_text_lem : (t : List ℕ) (h : Grams) → m ≡ Value h → h.0 < 100000 → t ≡ weight_text h.0 → WeightWritten s m accepted t
   unfolding has_weight_text weight_bytes
   weight_text_lem t h e l g = rw e (write_done 6 (ltb h.0 100000) (weight_text h.0) s t long (lt-ltb h.0 100000 l) g)
 
-  pub weight_malformed : m ≡ Weight.Malformed → WeightWritten s m (answer 210 0) s
+  pub weight_malformed : m ≡ Malformed → WeightWritten s m (answer 210 0) s
   unfolding has_weight_text weight_bytes
   weight_malformed e = rw e (write_none 6 false (replicate 6 32) s long refl)
 
 -- ---- what the rules ask
-pub money_zero : (r : MoneyReading) (h : Hellers) → r ≡ Money.Value h → eqb h.0 0 ≡ absent_or_zero_money r
+pub money_zero : (r : MoneyReading) (h : Hellers) → r ≡ Value h → eqb h.0 0 ≡ absent_or_zero_money r
 money_zero r h e = rw e

@@ -2,7 +2,7 @@
 -- Assumes nothing.
 use Prim.Native.Nat.{ℕ, zero, suc, ◌+◌, ◌≤◌, ◌<◌}
 use mathlib.Core.Path.{◌≡◌, refl, ap, ap₂, ◌∙◌}
-use mathlib.Core.Bool.{Bool, true, false, cond, ◌&&◌, ◌||◌, or-true}
+use mathlib.Core.Bool.{Bool, true, false, ◌&&◌, ◌||◌, or-true}
 use mathlib.Core.Logic.{◌↔◌, ◌⊎◌, inl, inr}
 use mathlib.Core.List.{List, [], ◌∷◌, ◌++◌}
 use native.Mathlib.Omega.{arith}
@@ -10,6 +10,7 @@ use borrow.Author.Tests.{eqb-true, leb-true, le-leb}
 use lib.Dec.{eqb, leb}
 use lib.ListN.{length, get_or, take, drop, replicate, length-replicate}
 use Rattle.text.proofs.Booleans.{both}
+use Rattle.std.proofs.lemmas.List.Sums.{prefix_len-le-length}
 use Rattle.text.specs.Bytes.{is_digit, every, all_digits, is_space, is_blank, run}
 
 -- ---- the two sides of `&&`
@@ -35,13 +36,11 @@ class_exactly lo b byte = (λ h. go (leb lo b) (leb b 126) refl refl h, back)
 -- ---- a test at every byte
 module _ (test : ℕ → Bool) where
   every_at : (s : List ℕ) (i : ℕ) → every test s ≡ true → i < length s → test (get_or s i 0) ≡ true
-  unfolding every
   every_at [] i h l = absurd (omega arith)
   every_at (b ∷ s) zero h l = both_left (test b) (every test s) h
   every_at (b ∷ s) (suc i) h l = every_at s i (both_right (test b) (every test s) h) (omega arith)
 
   at_every : (s : List ℕ) → ((i : ℕ) → i < length s → test (get_or s i 0) ≡ true) → every test s ≡ true
-  unfolding every
   at_every [] h = refl
   at_every (b ∷ s) h = rw (h 0 (omega arith), at_every s (λ i l. h (suc i) (omega arith)))
 
@@ -50,34 +49,28 @@ module _ (test : ℕ → Bool) where
   every_exactly s = (λ h i l. every_at s i h l, at_every s)
 
   passing_none : every test [] ≡ true
-  unfolding every
   passing_none = refl
 
   passing_on : (b : ℕ) (s : List ℕ) → test b ≡ true → every test s ≡ true → every test (b ∷ s) ≡ true
-  unfolding every
   passing_on b s e h = rw (e, h)
 
   pub every_take : (n : ℕ) (s : List ℕ) → every test s ≡ true → every test (take n s) ≡ true
-  unfolding every
   every_take zero s h = refl
   every_take (suc n) [] h = refl
   every_take (suc n) (b ∷ s) h =
       rw (both_left (test b) (every test s) h, every_take n s (both_right (test b) (every test s) h))
 
   pub every_drop : (n : ℕ) (s : List ℕ) → every test s ≡ true → every test (drop n s) ≡ true
-  unfolding every
   every_drop zero s h = h
   every_drop (suc n) [] h = refl
   every_drop (suc n) (b ∷ s) h = every_drop n s (both_right (test b) (every test s) h)
 
 -- ---- blank
 pub spaces_blank : (w : ℕ) → is_blank (replicate w 32) ≡ true
-unfolding every
 spaces_blank zero = refl
 spaces_blank (suc w) = spaces_blank w
 
 blank_spaces : (s : List ℕ) → is_blank s ≡ true → s ≡ replicate (length s) 32
-unfolding every
 blank_spaces [] h = refl
 blank_spaces (b ∷ s) h =
     ap₂ {C = List ℕ} (λ x r. x ∷ r) (eqb-true b 32 (both_left (eqb b 32) (is_blank s) h)) (blank_spaces s (both_right (eqb b 32) (is_blank s) h))
@@ -104,17 +97,10 @@ digits_not_blank s l h =
 -- ---- the bytes at the front that pass a test
 module _ (test : ℕ → Bool) where
   pub run_within : (s : List ℕ) → run test s ≤ length s
-  unfolding run
-  run_within [] = omega arith
-  run_within (b ∷ s) = go (test b) (run_within s)
-    where
-      go : (t : Bool) → run test s ≤ length s → cond t (suc (run test s)) 0 ≤ suc (length s)
-      go true h = omega arith
-      go false h = omega arith
+  run_within s = prefix_len-le-length test s
 
   -- bytes that pass, before others
   pub run_append : (xs ys : List ℕ) → every test xs ≡ true → run test (xs ++ ys) ≡ length xs + run test ys
-  unfolding run every
   run_append [] ys h = omega arith
   run_append (x ∷ xs) ys h =
       rw (both_left (test x) (every test xs) h) (omega (arith, run_append xs ys (both_right (test x) (every test xs) h)))

@@ -6,22 +6,23 @@ use mathlib.Core.Bool.{Bool, true, false, cond, not, ◌&&◌, and-eq-true_iff, 
 use mathlib.Core.List.{List, [], ◌∷◌, ◌++◌}
 use mathlib.Core.Logic.{◌⊎◌, inl, inr}
 use native.Mathlib.Omega.{arith}
-use borrow.Author.Tests.{eq-eqb, ne_eqb, eqb-true, eqb-false, lt-ltb, le-ltb, le-leb, leb-true, ltb-true, not-true, not-false}
+use borrow.Author.Tests.{eq-eqb, ne_eqb, eqb-true, eqb-false, lt-ltb, le-ltb, le-leb, leb-true, ltb-true, ltb-false, not-true, not-false}
+use Rattle.std.specs.Prelude.{Option, Some, None, option_map, position}
+use Rattle.std.specs.Option.{option_or}
+use Rattle.std.specs.Bool.{then_some}
 use lib.Dec.{eqb, leb, ltb, eqb→eq}
-use lib.ListN.{get_or, drop}
 use Rattle.text.specs.Bytes.{is_digit}
 use Rattle.text.specs.Lists.{same_bytes}
 use Rattle.text.specs.Numbers.{digits, decimal, decimal_places_up_to}
 use Rattle.text.proofs.Booleans.{clash}
-use Rattle.text.proofs.Lists.{step, ended}
 use Rattle.text.proofs.Ranges.{within}
 use Rattle.text.proofs.Decimals.{decimal_places_one, decimal_places_are}
 use Rattle.fields.specs.Codes.{Code, numbers_from, numbers, codes, number_for}
-use Rattle.fields.specs.Scans.{with_byte, key_from, key_of, number_at, with_letters}
+use Rattle.fields.specs.Scans.{with_byte, key_from, key_of, number_at, unless_0, with_letters}
 
 -- ---- with_byte
-pub byte_on : (w b : ℕ) → 32 < b → b < 256 → w < 256 → w * 256 + b ≡ with_byte w b
-byte_on w b h l s = rw (lt-ltb w 256 s, le-leb 33 b (omega arith), lt-ltb b 256 l)
+pub byte_on : (w b n : ℕ) → n ≡ b → 32 < b → b < 256 → w < 256 → w * 256 + n ≡ with_byte w b
+byte_on w b n e h l s = rw (e, lt-ltb w 256 s, le-leb 33 b (omega arith), lt-ltb b 256 l)
 
 pub byte_past : (w b : ℕ) → 256 ≤ w → 65536 ≡ with_byte w b
 byte_past w b h = rw (le-ltb w 256 h)
@@ -243,13 +244,6 @@ numbers_at w = numbers_from_lem w 1 99 (omega arith) refl (go (number_in w))
     go zero = inl refl
     go (suc n) = inr (omega arith)
 
--- what the tests say of a digit, and of a leading one
-pub digit_low : (n : ℕ) → not (leb 48 n && leb n 57) ≡ false → 48 ≤ n
-digit_low n h = leb-true 48 n ((and-eq-true_iff (leb 48 n) (leb n 57)).0 (not-false (leb 48 n && leb n 57) h)).0
-
-pub leading_low : (n : ℕ) → (leb 49 n && leb n 57) ≡ true → 48 ≤ n
-leading_low n h = let l = leb-true 49 n ((and-eq-true_iff (leb 49 n) (leb n 57)).0 h).0 in omega arith
-
 module _ (w : ℕ) where
   abbrev digit : Bool
   digit = leb 48 (w % 256) && leb (w % 256) 57
@@ -257,55 +251,62 @@ module _ (w : ℕ) where
   abbrev leading : Bool
   leading = leb 49 (w / 256) && leb (w / 256) 57
 
-  pub number_none : not digit ≡ true → 0 ≡ number_at numbers w
-  number_none h = sym (numbers_at w ∙ rw (not-true digit h))
+  at_numbers : unless_0 (number_at numbers w) ≡ unless_0 (number_in w)
+  at_numbers = ap unless_0 (numbers_at w)
 
-  pub number_of_one : not digit ≡ false → w / 256 ≡ 0 → w % 256 - 48 ≡ number_at numbers w
-  number_of_one h z = sym (numbers_at w ∙ rw (not-false digit h, eq-eqb (w / 256) 0 z))
+  pub number_none : not digit ≡ true → None ≡ unless_0 (number_at numbers w)
+  number_none h = sym (at_numbers ∙ rw (not-true digit h))
 
-  pub number_of_two : not digit ≡ false → (w / 256 ≡ 0 → ⊥) → leading ≡ true → (w / 256 - 48) * 10 + (w % 256 - 48) ≡ number_at numbers w
-  number_of_two h n l = sym (numbers_at w ∙ rw (not-false digit h, ne_eqb (w / 256) 0 n, l))
+  pub number_of_one : not digit ≡ false → w / 256 ≡ 0 → then_some (ltb 48 (w % 256)) (w % 256 - 48) ≡ unless_0 (number_at numbers w)
+  number_of_one h z = sym (at_numbers ∙ rw (not-false digit h, eq-eqb (w / 256) 0 z) (go (ltb 48 (w % 256)) refl))
+    where
+      go : (t : Bool) → ltb 48 (w % 256) ≡ t → unless_0 (w % 256 - 48) ≡ then_some t (w % 256 - 48)
+      go true e = rw (ne_eqb (w % 256 - 48) 0 (λ q. omega (arith, ltb-true 48 (w % 256) e)))
+      go false e = rw (eq-eqb (w % 256 - 48) 0 (omega (arith, ltb-false 48 (w % 256) e)))
 
-  pub number_not_led : not digit ≡ false → (w / 256 ≡ 0 → ⊥) → leading ≡ false → 0 ≡ number_at numbers w
-  number_not_led h n l = sym (numbers_at w ∙ rw (not-false digit h, ne_eqb (w / 256) 0 n, l))
+  pub number_of_two : not digit ≡ false → (w / 256 ≡ 0 → ⊥) → leading ≡ true → Some ((w / 256 - 48) * 10 + (w % 256 - 48)) ≡ unless_0 (number_at numbers w)
+  number_of_two h n l =
+      let some : eqb ((w / 256 - 48) * 10 + (w % 256 - 48)) 0 ≡ false = ne_eqb _ 0 (λ q. omega (arith, leb-true 49 (w / 256) ((and-eq-true_iff (leb 49 (w / 256)) (leb (w / 256) 57)).0 l).0)) in
+      sym (at_numbers ∙ rw (not-false digit h, ne_eqb (w / 256) 0 n, l, some))
 
--- ---- lettered_in: numbers in turn from n on for the words of a list
-unfoldable pub first_at : ℕ → List ℕ → ℕ → ℕ
-first_at n [] w = 0
-first_at n (k ∷ ks) w = cond (eqb k w) n (first_at (suc n) ks w)
+  pub number_not_led : not digit ≡ false → (w / 256 ≡ 0 → ⊥) → leading ≡ false → None ≡ unless_0 (number_at numbers w)
+  number_not_led h n l = sym (at_numbers ∙ rw (not-false digit h, ne_eqb (w / 256) 0 n, l))
 
--- the words of the codes with letters, as the code has them
+-- ---- lettered_in: the words of the codes with letters, as the code has them
 abbrev pub letter_words : List ℕ
 letter_words = 12609 ∷ 12610 ∷ 12612 ∷ 12619 ∷ 12622 ∷ 83 ∷ 77 ∷ 76 ∷ 22604 ∷ []
 
-abbrev pub found_from : ℕ → ℕ → ℕ
-found_from i w = first_at (100 + i) (drop i letter_words) w
+-- numbers in turn from 100 on
+pub letters_are : (w : ℕ) → option_map (λ i. 100 + i) (position (λ k. eqb k w) letter_words) ≡ unless_0 (number_at with_letters w)
+unfolding number_at key_from
+letters_are w = go (eqb 12609 w) (eqb 12610 w) (eqb 12612 w) (eqb 12619 w) (eqb 12622 w) (eqb 83 w) (eqb 77 w) (eqb 76 w) (eqb 22604 w)
+  where
+    place : Bool → ℕ → ℕ
+    place t n = cond (not t) (1 + n) 0
 
-pub letters_start : (w : ℕ) → found_from 0 w ≡ number_at with_letters w
-unfolding number_at key_from first_at
-letters_start w = refl
+    first : Bool → Bool → Bool → Bool → Bool → Bool → Bool → Bool → Bool → ℕ
+    first a b c d e f g h i = place a (place b (place c (place d (place e (place f (place g (place h (place i 0))))))))
 
-module _ (w i r : ℕ) (known : found_from i w ≡ r) where
-  pub letters_found : i < 9 → get_or letter_words i 0 ≡ w → 100 + i ≡ r
-  unfolding first_at
-  letters_found h e = go (step letter_words i h)
-    where
-      go : drop i letter_words ≡ get_or letter_words i 0 ∷ drop (i + 1) letter_words → 100 + i ≡ r
-      go d = sym (ap (λ (ks : List ℕ). first_at (100 + i) ks w) d ∙ rw (eq-eqb (get_or letter_words i 0) w e)) ∙ known
+    go : (a b c d e f g h i : Bool)
+        → option_map (λ i. 100 + i) (cond (ltb (first a b c d e f g h i) 9) (Some (first a b c d e f g h i)) None)
+        ≡ unless_0 (cond a 100 (cond b 101 (cond c 102 (cond d 103 (cond e 104 (cond f 105 (cond g 106 (cond h 107 (cond i 108 0)))))))))
+    go true b c d e f g h i = refl
+    go false true c d e f g h i = refl
+    go false false true d e f g h i = refl
+    go false false false true e f g h i = refl
+    go false false false false true f g h i = refl
+    go false false false false false true g h i = refl
+    go false false false false false false true h i = refl
+    go false false false false false false false true i = refl
+    go false false false false false false false false true = refl
+    go false false false false false false false false false = refl
 
-  pub letters_on : i < 9 → (get_or letter_words i 0 ≡ w → ⊥) → found_from (i + 1) w ≡ r
-  unfolding first_at
-  letters_on h n = go (step letter_words i h)
-    where
-      next : 100 + (i + 1) ≡ suc (100 + i)
-      next = omega arith
+module _ (w : ℕ) (o : Option ℕ) (eo : o ≡ position (λ k. eqb k w) letter_words) where
+  pub letters_none : o ≡ None → None ≡ unless_0 (number_at with_letters w)
+  letters_none e = rw (sym eo ∙ e) at (letters_are w)
 
-      go : drop i letter_words ≡ get_or letter_words i 0 ∷ drop (i + 1) letter_words → found_from (i + 1) w ≡ r
-      go d = ap (λ (m : ℕ). first_at m (drop (i + 1) letter_words) w) next ∙ sym (ap (λ (ks : List ℕ). first_at (100 + i) ks w) d ∙ rw (ne_eqb (get_or letter_words i 0) w n)) ∙ known
-
-  pub letters_none : 9 ≤ i → 0 ≡ r
-  unfolding first_at
-  letters_none h = sym (ap (λ (ks : List ℕ). first_at (100 + i) ks w) (ended letter_words i h)) ∙ known
+  pub letters_found : (i : ℕ) → o ≡ Some i → Some (100 + i) ≡ unless_0 (number_at with_letters w)
+  letters_found i e = rw (sym eo ∙ e) at (letters_are w)
 
 -- ---- code_in: a number, or behind the numbers one with letters
 numbers_then : (n k : ℕ) (cs : List Code) (w : ℕ) → 1 ≤ n
@@ -320,11 +321,10 @@ numbers_then n (suc k) cs w low = go (eqb (key_of (decimal n)) w) (numbers_then 
     go true rest = rw (lt-ltb 0 n low)
     go false rest = rest
 
-module _ (w n : ℕ) (e : n ≡ number_at numbers w) where
-  pub code_number : 0 < n → n ≡ number_at codes w
-  unfolding codes
-  code_number h = sym (numbers_then 1 99 with_letters w (omega arith) ∙ rw (← e, lt-ltb 0 n h))
-
-  pub code_lettered : (r : ℕ) → n ≤ 0 → r ≡ number_at with_letters w → r ≡ number_at codes w
-  unfolding codes
-  code_lettered r h g = g ∙ sym (numbers_then 1 99 with_letters w (omega arith) ∙ rw (← e, le-ltb 0 n h))
+pub code_found : (w : ℕ) → option_or (unless_0 (number_at numbers w)) (unless_0 (number_at with_letters w)) ≡ unless_0 (number_at codes w)
+unfolding codes
+code_found w = sym (ap unless_0 (numbers_then 1 99 with_letters w (omega arith)) ∙ go (number_at numbers w))
+  where
+    go : (n : ℕ) → unless_0 (cond (ltb 0 n) n (number_at with_letters w)) ≡ option_or (unless_0 n) (unless_0 (number_at with_letters w))
+    go zero = refl
+    go (suc n) = rw (lt-ltb 0 (suc n) (omega arith), ne_eqb (suc n) 0 (λ q. omega arith))

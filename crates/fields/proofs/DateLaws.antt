@@ -3,6 +3,7 @@
 use Prim.Native.Nat.{ℕ, ◌+◌, ◌*◌}
 use mathlib.Core.Path.{◌≡◌, sym}
 use mathlib.Core.Bool.{true, ◌&&◌}
+use Rattle.std.specs.Prelude.{Ok, Err}
 use mathlib.Core.Logic.{◌↔◌}
 use mathlib.Core.List.{List, ◌∷◌, ◌++◌}
 use native.Mathlib.Omega.{arith}
@@ -15,8 +16,7 @@ use Rattle.text.specs.Numbers.{digits}
 use Rattle.text.proofs.Lists.{spelled}
 use Rattle.text.proofs.Numbers.{every_append, length_digits, digits_all, number_digits, digits_number}
 use Rattle.fields.specs.Dates.{days_in, real_date, year_of, month_of, day_of, read_date, hours_of, minutes_of, seconds_of, is_time, read_time}
-use Rattle.fields.specs.declared.dates.DateReading.TheVariants as Date
-use Rattle.fields.specs.declared.dates.TimeReading.TheVariants as Time
+use Rattle.fields.specs.Readings.{DateReading, TimeReading, no_form}
 use Rattle.fields.specs.Meanings.{IsDate, Real, IsTimeOf}
 use Rattle.fields.proofs.Ways.{days_few}
 use Rattle.fields.proofs.ByteLaws.{both_left, both_right, every_take, every_drop}
@@ -35,10 +35,10 @@ real_exactly y m d = (
   λ r. rw (le-leb 2000 y r.from, le-leb y 2099 r.until, le-leb 1 m r.month, le-leb m 12 r.months, le-leb 1 d r.day, le-leb d (days_in y m) r.days),
 )
 
-no_date : (v : ℕ) → Date.Malformed ≡ Date.Value v → ⊥
+no_date : (v : ℕ) → Err no_form ≡ Ok v → ⊥
 no_date v e = let z : ◌≡◌ {A = ℕ} 0 1 = cc in omega arith
 
-same_date : (a b : ℕ) → Date.Value a ≡ Date.Value b → a ≡ b
+same_date : (a b : ℕ) → ◌≡◌ {A = DateReading} (Ok a) (Ok b) → a ≡ b
 same_date a b e = cc
 
 -- three lists of 4, 2 and 2 in a row
@@ -75,7 +75,7 @@ date_is f v l h r e =
     }
 
 is_date_lem : (f : List ℕ) (v : ℕ) → IsDate f v
-    → (eqb (length f) 8 ≡ true) × ((all_digits f && real_date (year_of f) (month_of f) (day_of f)) ≡ true) × (Date.Value (year_of f * 10000 + month_of f * 100 + day_of f) ≡ Date.Value v)
+    → (eqb (length f) 8 ≡ true) × ((all_digits f && real_date (year_of f) (month_of f) (day_of f)) ≡ true) × (◌≡◌ {A = DateReading} (Ok (year_of f * 10000 + month_of f * 100 + day_of f)) (Ok v))
 is_date_lem f v i =
     let r = (real_exactly i.y i.m i.d).0 i.real in
     let row = row_of (digits 4 i.y) (digits 2 i.m) (digits 2 i.d) (length_digits 4 i.y) (length_digits 2 i.m) (length_digits 2 i.d) in
@@ -89,19 +89,13 @@ is_date_lem f v i =
       rw (y-is, m-is, d-is, i.value),
     )
 
-pub date_exactly : (f : List ℕ) (v : ℕ) → (read_date f ≡ Date.Value v) ↔ IsDate f v
+pub date_exactly : (f : List ℕ) (v : ℕ) → (read_date f ≡ Ok v) ↔ IsDate f v
 unfolding read_date
 date_exactly f v =
-    let c = chosen_exactly Date.Malformed (Date.Value (year_of f * 10000 + month_of f * 100 + day_of f)) (Date.Value v) (eqb (length f) 8) (all_digits f && real_date (year_of f) (month_of f) (day_of f)) (no_date v) in (
+    let c = chosen_exactly (Err no_form) (Ok (year_of f * 10000 + month_of f * 100 + day_of f)) (Ok v) (eqb (length f) 8) (all_digits f && real_date (year_of f) (month_of f) (day_of f)) (no_date v) in (
       λ h. let p = c.0 h in date_is f v (eqb-true (length f) 8 p.0) (both_left (all_digits f) _ p.1) (both_right (all_digits f) _ p.1) (same_date _ v p.2),
       λ i. c.1 (is_date_lem f v i),
     )
-
-no_time : (v : ℕ) → Time.Malformed ≡ Time.Value v → ⊥
-no_time v e = let z : ◌≡◌ {A = ℕ} 0 1 = cc in omega arith
-
-same_time : (a b : ℕ) → Time.Value a ≡ Time.Value b → a ≡ b
-same_time a b e = cc
 
 -- three lists of 2 with colons between
 record Clock (f a b c : List ℕ) : Type 0 where
@@ -144,7 +138,7 @@ time_is f v l t e =
     }
 
 is_time_lem : (f : List ℕ) (v : ℕ) → IsTimeOf f v
-    → (eqb (length f) 8 ≡ true) × (is_time f ≡ true) × (Time.Value (hours_of f * 3600 + minutes_of f * 60 + seconds_of f) ≡ Time.Value v)
+    → (eqb (length f) 8 ≡ true) × (is_time f ≡ true) × (◌≡◌ {A = TimeReading} (Ok (hours_of f * 3600 + minutes_of f * 60 + seconds_of f)) (Ok v))
 is_time_lem f v i =
     let k = clock_of (digits 2 i.h) (digits 2 i.m) (digits 2 i.s) (length_digits 2 i.h) (length_digits 2 i.m) (length_digits 2 i.s) in
     let a : part f 0 2 ≡ digits 2 i.h = rw i.bytes k.first in
@@ -175,10 +169,10 @@ is_time_lem f v i =
       rw (h-is, m-is, s-is, i.value),
     )
 
-pub time_exactly : (f : List ℕ) (v : ℕ) → (read_time f ≡ Time.Value v) ↔ IsTimeOf f v
+pub time_exactly : (f : List ℕ) (v : ℕ) → (read_time f ≡ Ok v) ↔ IsTimeOf f v
 unfolding read_time
 time_exactly f v =
-    let c = chosen_exactly Time.Malformed (Time.Value (hours_of f * 3600 + minutes_of f * 60 + seconds_of f)) (Time.Value v) (eqb (length f) 8) (is_time f) (no_time v) in (
-      λ h. let p = c.0 h in time_is f v (eqb-true (length f) 8 p.0) p.1 (same_time _ v p.2),
+    let c = chosen_exactly (Err no_form) (Ok (hours_of f * 3600 + minutes_of f * 60 + seconds_of f)) (Ok v) (eqb (length f) 8) (is_time f) (no_date v) in (
+      λ h. let p = c.0 h in time_is f v (eqb-true (length f) 8 p.0) p.1 (same_date _ v p.2),
       λ i. c.1 (is_time_lem f v i),
     )

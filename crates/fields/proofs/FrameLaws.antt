@@ -1,14 +1,17 @@
 -- Readings turned round: how one came about, what is known of a part whose reading is a value, when a reading is absent, and a reading written.
 -- Assumes nothing.
 use Prim.Native.Nat.{ℕ}
-use mathlib.Core.Path.{◌≡◌, refl, sym, ◌∙◌}
+use mathlib.Core.Path.{◌≡◌, refl, sym, ap, ◌∙◌}
 use mathlib.Core.Bool.{Bool, true, false, cond}
 use mathlib.Core.Logic.{◌↔◌}
 use mathlib.Core.List.{List}
 use borrow.Author.Tests.{eqb-true, eq-eqb}
+use native.Mathlib.Omega.{arith}
 use lib.Dec.{eqb}
 use lib.ListN.{length, replicate}
 use Rattle.text.specs.Bytes.{is_blank}
+use Rattle.fields.specs.declared.reading.Reading.{Reading}
+use Rattle.fields.specs.declared.reading.Reading.TheVariants.{Absent, Value, Malformed}
 use Rattle.fields.specs.Frame.{framed}
 use Rattle.text.proofs.Booleans.{clash}
 use Rattle.fields.proofs.ByteLaws.{blank_exactly}
@@ -74,6 +77,33 @@ module _ {A : Type 0} (absent malformed : A) (w : ℕ) (f : List ℕ) (good : Bo
       go (blank e s) = rw e (spaces ∙ sym s)
       go (valued e p) = rw e (written p)
       go (neither e) = absurd (fine e)
+
+-- ---- a reading: absent, a value or malformed
+module _ {T : Type 0} where
+  pub not_absent : (v : T) → Absent ≡ Value v → ⊥
+  not_absent v e = let z : ◌≡◌ {A = ℕ} 0 1 = cc in omega arith
+
+  pub not_malformed : (v : T) → Malformed ≡ Value v → ⊥
+  not_malformed v e = let z : ◌≡◌ {A = ℕ} 0 1 = cc in omega arith
+
+  differs : ◌≡◌ {A = Reading T} Malformed Absent → ⊥
+  differs e = let z : ◌≡◌ {A = ℕ} 0 1 = cc in omega arith
+
+  pub same_value : (v u : T) → Value v ≡ Value u → v ≡ u
+  same_value v u e = cc
+
+  module _ (w : ℕ) (f : List ℕ) (good : Bool) (value : T) where
+    -- it is the value v exactly if the part is good, and its value is v
+    pub reads_exactly : (v : T) → (framed Absent Malformed w f good (Value value) ≡ Value v) ↔ (GoodPart w f good × (value ≡ v))
+    reads_exactly v =
+        let c = value_exactly Absent Malformed w f good (Value value) (Value v) (not_absent v) (not_malformed v) in (
+          λ h. let p = c.0 h in (p.0, same_value value v p.1),
+          λ p. c.1 (p.0, ap Value p.1),
+        )
+
+    -- it is absent exactly if the part is spaces, as many as the field is wide
+    pub reads_absent : (framed Absent Malformed w f good (Value value) ≡ Absent) ↔ (f ≡ replicate w 32)
+    reads_absent = absent_spaces Absent Malformed w f good (Value value) (λ e. not_absent value (sym e)) differs
 
 -- ---- a field that may not be blank
 pub chosen_exactly : {A : Type 0} (malformed value v : A) (a b : Bool) → (malformed ≡ v → ⊥)

@@ -1,9 +1,7 @@
 pub mod Frames
 pub mod Bits
 pub mod Ways
-pub mod WordText
 pub mod TextWays
-pub mod PostcodeWays
 pub mod AmountWays
 pub mod CodeWays
 pub mod ServiceWays
@@ -21,3 +19,4 @@ pub mod ServicesLaws
 pub mod WiderCodes
 pub mod HowMany
 pub mod OneOutcome
+pub mod Former

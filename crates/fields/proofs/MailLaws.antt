@@ -1,7 +1,7 @@
 -- Field 13: exactly which bytes are an e-mail.
 -- Assumes nothing.
 use Prim.Native.Nat.{ℕ, zero, suc, ◌+◌, ◌-◌, ◌≤◌, ◌<◌}
-use mathlib.Core.Path.{◌≡◌, refl, sym, ap, ◌∙◌}
+use mathlib.Core.Path.{◌≡◌, refl, sym, ◌∙◌}
 use mathlib.Core.Bool.{Bool, true, false, not, ◌&&◌, ◌||◌, or-true}
 use mathlib.Core.Logic.{◌↔◌, ◌⊎◌}
 use mathlib.Core.List.{List, [], ◌∷◌, ◌++◌}
@@ -14,13 +14,12 @@ use lib.Seq.{split_at, get_or-take, get_or-drop, drop_at, get_or_at, length-take
 use Rattle.text.specs.Bytes.{every, run}
 use Rattle.text.specs.Lists.{part}
 use Rattle.fields.specs.Texts.{is_plain, contains, at_in, behind_at, is_host, is_mail, mail_end, read_mail}
-use Rattle.fields.specs.declared.texts.TextReading.TheVariants.{Absent, Value, Malformed}
+use Rattle.fields.specs.declared.reading.Reading.TheVariants.{Absent, Value}
 use Rattle.text.proofs.Booleans.{clash}
 use Rattle.text.proofs.Runs.{run_passes}
 use Rattle.fields.specs.Meanings.{IsHostOf, IsMailOf}
 use Rattle.fields.proofs.ByteLaws.{class_exactly, both_left, both_right, blank_exactly, not_blank, run_within, run_append}
-use Rattle.fields.proofs.FrameLaws.{GoodPart, value_exactly, absent_spaces}
-use Rattle.fields.proofs.TextLaws.{not_absent, not_malformed, differs, same_length}
+use Rattle.fields.proofs.FrameLaws.{GoodPart, reads_exactly, reads_absent}
 
 -- ---- a byte of the e-mail beside the "@": 21h to 7Eh or 80h to FFh
 pub plain_byte_exactly : (b : ℕ) → b < 256 → (is_plain b ≡ true) ↔ ((((33 ≤ b) × (b ≤ 126)) ⊎ ((128 ≤ b) × (b ≤ 255))) × (b ≡ 64 → ⊥))
@@ -77,12 +76,10 @@ host_is h t =
     }
 
 run_spaces : (k : ℕ) → run is_plain (replicate k 32) ≡ 0
-unfolding run
 run_spaces zero = refl
 run_spaces (suc k) = refl
 
 run_sign : (s : List ℕ) → run is_plain (64 ∷ s) ≡ 0
-unfolding run
 run_sign s = refl
 
 module _ (host : List ℕ) (k : ℕ) (plain : every is_plain host ≡ true) where
@@ -161,10 +158,10 @@ is_mail_lem f n i =
 
 pub mail_exactly : (f : List ℕ) (n : ℕ) → (read_mail f ≡ Value n) ↔ IsMailOf f n
 mail_exactly f n =
-    let c = value_exactly Absent Malformed 50 f (is_mail f) (Value (mail_end f)) (Value n) (not_absent n) (not_malformed n) in (
-      λ h. let p = c.0 h in mail_is f n p.0.long p.0.fine (same_length _ n p.1),
-      λ i. let k = is_mail_lem f n i in c.1 (k.0, ap Value k.1),
+    let c = reads_exactly 50 f (is_mail f) (mail_end f) n in (
+      λ h. let p = c.0 h in mail_is f n p.0.long p.0.fine p.1,
+      λ i. c.1 (is_mail_lem f n i),
     )
 
 pub mail_absent : (f : List ℕ) → (read_mail f ≡ Absent) ↔ (f ≡ replicate 50 32)
-mail_absent f = absent_spaces Absent Malformed 50 f (is_mail f) (Value (mail_end f)) (λ e. not_absent (mail_end f) (sym e)) differs
+mail_absent f = reads_absent 50 f (is_mail f) (mail_end f)

@@ -13,20 +13,20 @@ use borrow.Rule.Slice.PartMut.{mid_len}
 use lib.Dec.{eqb, ltb}
 use lib.ListN.{length, get_or, drop, replicate, length-append, length-drop, length-replicate, take-append-drop, get_or-append}
 use lib.Seq.{take_at, drop_at, get_or_at, drop-drop, drop-cons, take_all, get_or-take}
-use Rattle.text.specs.Bytes.{is_digit, every, all_digits, is_space, is_blank}
+use Rattle.text.specs.Bytes.{is_digit, all_digits, is_space, is_blank}
 use Rattle.text.specs.Lists.{part}
 use Rattle.text.specs.Numbers.{number_of, digits, decimal_places, decimal}
 use Rattle.text.proofs.Numbers.{ten, ten_grows, every_append, length_digits, digits_all, number_digits, number_below, digits_number}
 use Rattle.text.proofs.Decimals.{decimal_places_one, sized_decimal, decimal_read, decimal_written, decimal_first, digits_last}
 use Rattle.text.proofs.Runs.{run_is, run_passes}
-use Rattle.fields.specs.declared.amounts.MoneyReading.{MoneyReading}
-use Rattle.fields.specs.declared.amounts.MoneyReading.TheVariants as Money
+use Rattle.fields.specs.declared.reading.Reading.TheVariants.{Absent, Value, Malformed}
+use Rattle.fields.specs.Readings.{MoneyReading}
 use Rattle.fields.specs.Frame.{framed}
 use Rattle.fields.specs.Amounts.{crown_digits, is_money, hellers_in, hellers, read_money, money_text}
 use Rattle.fields.specs.Calls.{has_money_text, money_bytes}
 use Rattle.fields.proofs.AmountWays.{Amount, amount_has, nine_at_most}
 use Rattle.fields.proofs.ByteLaws.{spaces_blank, blank_exactly}
-use Rattle.fields.proofs.FrameLaws.{value_exactly, read_written}
+use Rattle.fields.proofs.FrameLaws.{reads_exactly, read_written}
 
 -- ---- crowns, a dot, two digits, spaces: what such a field reads as
 module _ (c d s : List ℕ) (p : ℕ) (long₁ : length c ≡ p) (long₂ : length d ≡ 2) (long₃ : length s ≡ 9 - p) (low : 1 ≤ p) (high : p ≤ 9)
@@ -38,7 +38,6 @@ module _ (c d s : List ℕ) (p : ℕ) (long₁ : length c ≡ p) (long₂ : leng
   line_long = simp length-append (omega arith)
 
   line_filled : is_blank line ≡ false
-  unfolding every
   line_filled = every_append is_space c (46 ∷ (d ++ s)) ∙ and-false (is_blank c)
 
   line_crowns : crown_digits line ≡ p
@@ -166,39 +165,25 @@ good_is_written f long good =
     let crowns : all_digits (part f 0 (crown_digits f)) ≡ true = rw (sub-zero (crown_digits f)) (run_passes is_digit f) in
     (good_below f (crown_digits f) long form crowns, good_text f (crown_digits f) long form crowns)
 
-no_absence : (v : ℕ) → Money.Absent ≡ hellers v → ⊥
-no_absence v e = let z : ◌≡◌ {A = ℕ} 0 1 = cc in omega arith
-
-no_malformed : (v : ℕ) → Money.Malformed ≡ hellers v → ⊥
-no_malformed v e = let z : ◌≡◌ {A = ℕ} 0 1 = cc in omega arith
-
-hellers_of : (m n : ℕ) → hellers m ≡ hellers n → m ≡ n
-hellers_of m n e = ap number e
-  where
-    number : MoneyReading → ℕ
-    number Money.Absent = 0
-    number (Money.Value x) = x.0
-    number Money.Malformed = 0
-
 -- a field that reads as a number is the writing of that number
 read_is_written : (f : List ℕ) (v : ℕ) → read_money f ≡ hellers v → (v < 100000000000) × (f ≡ money_text v)
 read_is_written f v r =
-    let p = (value_exactly Money.Absent Money.Malformed 12 f (is_money f) (hellers (hellers_in f)) (hellers v) (no_absence v) (no_malformed v)).0 r in
-    rw (hellers_of (hellers_in f) v p.1) at (good_is_written f p.0.long p.0.fine)
+    let p = (reads_exactly 12 f (is_money f) (record { 0 = hellers_in f }) (record { 0 = v })).0 r in
+    rw (ap (λ n. n.0) p.1) at (good_is_written f p.0.long p.0.fine)
 
 -- each number below 100000000000 has exactly one writing, and no other number has one
 pub money_exactly : (f : List ℕ) (v : ℕ) → (read_money f ≡ hellers v) ↔ ((v < 100000000000) × (f ≡ money_text v))
 money_exactly f v = (read_is_written f v, λ p. ap read_money p.1 ∙ money_written_read v p.0)
 
 -- ---- a field that is not malformed, read and written: the field again, blank where the amount is absent
-pub money_read_written : (f : List ℕ) → (read_money f ≡ Money.Malformed → ⊥) → money_bytes (read_money f) ≡ f
+pub money_read_written : (f : List ℕ) → (read_money f ≡ Malformed → ⊥) → money_bytes (read_money f) ≡ f
 unfolding money_bytes
 money_read_written f good =
-    read_written Money.Absent Money.Malformed 12 f (is_money f) (hellers (hellers_in f)) money_bytes refl (λ p. sym (good_is_written f p.long p.fine).1) good
+    read_written Absent Malformed 12 f (is_money f) (hellers (hellers_in f)) money_bytes refl (λ p. sym (good_is_written f p.long p.fine).1) good
 
 -- ---- and a reading that has a writing, written and read: the reading again, absent where it was absent
 pub money_reading_back : (m : MoneyReading) → has_money_text m ≡ true → read_money (money_bytes m) ≡ m
-unfolding has_money_text money_bytes framed every
-money_reading_back Money.Absent e = refl
-money_reading_back (Money.Value v) e = money_written_read v.0 (ltb-true v.0 100000000000 e)
-money_reading_back Money.Malformed e = cc
+unfolding has_money_text money_bytes framed
+money_reading_back Absent e = refl
+money_reading_back (Value v) e = money_written_read v.0 (ltb-true v.0 100000000000 e)
+money_reading_back Malformed e = cc

@@ -1,7 +1,7 @@
 -- Fields of digits (telephone, variable symbol, serial and pieces): exactly which bytes are a value.
 -- Assumes nothing.
 use Prim.Native.Nat.{ℕ, ◌<◌}
-use mathlib.Core.Path.{◌≡◌, refl, sym, ap}
+use mathlib.Core.Path.{◌≡◌, refl, sym}
 use mathlib.Core.Bool.{true, ◌&&◌}
 use mathlib.Core.Logic.{◌↔◌}
 use mathlib.Core.List.{List, ◌∷◌, ◌++◌}
@@ -15,22 +15,10 @@ use Rattle.text.specs.Numbers.{number_of, digits}
 use Rattle.text.proofs.Lists.{spelled}
 use Rattle.text.proofs.Numbers.{ten_is, length_digits, digits_all, number_digits, number_below, digits_number}
 use Rattle.fields.specs.Numbers.{read_digits, is_telephone, read_telephone, read_symbol, read_count}
-use Rattle.fields.specs.declared.numbers.NumberReading.TheVariants.{Absent, Value, Malformed}
+use Rattle.fields.specs.declared.reading.Reading.TheVariants.{Absent, Value}
 use Rattle.fields.specs.Meanings.{IsDigits, IsCount, IsTelephoneOf}
 use Rattle.fields.proofs.ByteLaws.{both_left, both_right, blank_exactly, not_blank, digits_not_blank}
-use Rattle.fields.proofs.FrameLaws.{GoodPart, value_exactly, absent_spaces}
-
-not_absent : (v : ℕ) → Absent ≡ Value v → ⊥
-not_absent v e = let z : ◌≡◌ {A = ℕ} 0 1 = cc in omega arith
-
-not_malformed : (v : ℕ) → Malformed ≡ Value v → ⊥
-not_malformed v e = let z : ◌≡◌ {A = ℕ} 0 1 = cc in omega arith
-
-differs : Malformed ≡ Absent → ⊥
-differs e = let z : ◌≡◌ {A = ℕ} 0 1 = cc in omega arith
-
-same_number : (a b : ℕ) → Value a ≡ Value b → a ≡ b
-same_number a b e = cc
+use Rattle.fields.proofs.FrameLaws.{GoodPart, reads_exactly, reads_absent}
 
 digits_is : (w : ℕ) (f : List ℕ) (v : ℕ) → length f ≡ w → all_digits f ≡ true → number_of f ≡ v → IsDigits w f v
 digits_is w f v l h e = record {
@@ -52,32 +40,31 @@ is_digits w f v i = record {
 
 pub digits_exactly : (w : ℕ) (f : List ℕ) (v : ℕ) → 0 < w → (read_digits w f ≡ Value v) ↔ IsDigits w f v
 digits_exactly w f v some =
-    let c = value_exactly Absent Malformed w f (all_digits f) (Value (number_of f)) (Value v) (not_absent v) (not_malformed v) in (
-      λ h. let p = c.0 h in digits_is w f v p.0.long p.0.fine (same_number _ v p.1),
+    let c = reads_exactly w f (all_digits f) (number_of f) v in (
+      λ h. let p = c.0 h in digits_is w f v p.0.long p.0.fine (p.1),
       λ i. let k = is_digits w f v i in
-          c.1 (record { long = k.long; filled = digits_not_blank f (omega arith) k.all; fine = k.all }, ap Value k.number),
+          c.1 (record { long = k.long; filled = digits_not_blank f (omega arith) k.all; fine = k.all }, k.number),
     )
 
 pub digits_absent : (w : ℕ) (f : List ℕ) → (read_digits w f ≡ Absent) ↔ (f ≡ replicate w 32)
-digits_absent w f = absent_spaces Absent Malformed w f (all_digits f) (Value (number_of f)) (λ e. not_absent (number_of f) (sym e)) differs
+digits_absent w f = reads_absent w f (all_digits f) (number_of f)
 
 pub symbol_exactly : (f : List ℕ) (v : ℕ) → (read_symbol f ≡ Value v) ↔ IsDigits 10 f v
 symbol_exactly f v = digits_exactly 10 f v (omega arith)
 
 pub count_exactly : (f : List ℕ) (v : ℕ) → (read_count f ≡ Value v) ↔ IsCount f v
 count_exactly f v =
-    let c = value_exactly Absent Malformed 2 f (all_digits f && ltb 0 (number_of f)) (Value (number_of f)) (Value v) (not_absent v) (not_malformed v) in (
+    let c = reads_exactly 2 f (all_digits f && ltb 0 (number_of f)) (number_of f) v in (
       λ h. let p = c.0 h in
-          let e = same_number _ v p.1 in
-          let k = digits_is 2 f v p.0.long (both_left (all_digits f) _ p.0.fine) e in
+          let k = digits_is 2 f v p.0.long (both_left (all_digits f) _ p.0.fine) p.1 in
           record { bytes = k.bytes; least = omega (arith, ltb-true 0 (number_of f) (both_right (all_digits f) _ p.0.fine)); most = omega (arith, k.small) },
       λ i. let k = is_digits 2 f v (record { bytes = i.bytes; small = omega arith }) in
-          c.1 (record { long = k.long; filled = digits_not_blank f (omega arith) k.all; fine = rw (k.all, k.number) (lt-ltb 0 v i.least) }, ap Value k.number),
+          c.1 (record { long = k.long; filled = digits_not_blank f (omega arith) k.all; fine = rw (k.all, k.number) (lt-ltb 0 v i.least) }, k.number),
     )
 
 pub count_absent : (f : List ℕ) → (read_count f ≡ Absent) ↔ (f ≡ replicate 2 32)
 count_absent f =
-    absent_spaces Absent Malformed 2 f (all_digits f && ltb 0 (number_of f)) (Value (number_of f)) (λ e. not_absent (number_of f) (sym e)) differs
+    reads_absent 2 f (all_digits f && ltb 0 (number_of f)) (number_of f)
 
 record Call (f d s : List ℕ) : Type 0 where
   long : length f ≡ 20
@@ -124,12 +111,12 @@ is_telephone_lem f v i =
 
 pub telephone_exactly : (f : List ℕ) (v : ℕ) → (read_telephone f ≡ Value v) ↔ IsTelephoneOf f v
 telephone_exactly f v =
-    let c = value_exactly Absent Malformed 20 f (is_telephone f) (Value (number_of (part f 1 13))) (Value v) (not_absent v) (not_malformed v) in (
-      λ h. let p = c.0 h in telephone_is f v p.0.long p.0.fine (same_number _ v p.1),
-      λ i. let k = is_telephone_lem f v i in c.1 (k.0, ap Value k.1),
+    let c = reads_exactly 20 f (is_telephone f) (number_of (part f 1 13)) v in (
+      λ h. let p = c.0 h in telephone_is f v p.0.long p.0.fine (p.1),
+      λ i. c.1 (is_telephone_lem f v i),
     )
 
 pub telephone_absent : (f : List ℕ) → (read_telephone f ≡ Absent) ↔ (f ≡ replicate 20 32)
 telephone_absent f =
     let n : ℕ = number_of (part f 1 13) in
-    absent_spaces Absent Malformed 20 f (is_telephone f) (Value n) (λ e. not_absent n (sym e)) differs
+    reads_absent 20 f (is_telephone f) n

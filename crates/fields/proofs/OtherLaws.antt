@@ -5,6 +5,7 @@ use mathlib.Core.Path.{◌≡◌, refl, sym, ap}
 use mathlib.Core.Bool.{Bool, true, false, not, ◌&&◌}
 use mathlib.Core.Logic.{◌↔◌}
 use mathlib.Core.List.{List, [], ◌∷◌}
+use Rattle.std.specs.Prelude.{Ok, Err}
 use native.Mathlib.Omega.{arith}
 use borrow.Author.Tests.{eqb-true, eq-eqb, leb-true, le-leb}
 use lib.Dec.{eqb, leb}
@@ -15,14 +16,13 @@ use Rattle.ident.specs.declared.Parts.{Parts}
 use Rattle.ident.specs.Identifier.{right_id, shape_of, posting_digits}
 use Rattle.ident.specs.Calls.{parts_of}
 use Rattle.ident.proofs.Facts.{right_facts}
-use Rattle.fields.specs.Others.{is_country, read_country, read_empty, read_status, read_main}
-use Rattle.fields.specs.declared.others.CountryReading.TheVariants as Country
-use Rattle.fields.specs.declared.others.EmptyReading.TheVariants as Empty
+use Rattle.fields.specs.Others.{capitals, is_country, read_country, read_empty, read_status, read_main}
+use Rattle.fields.specs.declared.reading.Reading.TheVariants.{Absent, Value}
+use Rattle.fields.specs.Readings.{EmptyReading, no_form}
 use Rattle.fields.specs.declared.others.StatusReading.TheVariants as Status
-use Rattle.fields.specs.declared.others.MainReading.TheVariants as Main
 use Rattle.fields.specs.Meanings.{IsCountryOf}
 use Rattle.fields.proofs.ByteLaws.{both_left, both_right, not_blank}
-use Rattle.fields.proofs.FrameLaws.{GoodPart, value_exactly, absent_spaces}
+use Rattle.fields.proofs.FrameLaws.{GoodPart, value_exactly, absent_spaces, reads_exactly, reads_absent}
 
 capital_bounds : (b : ℕ) → is_capital b ≡ true → (65 ≤ b) × (b ≤ 90)
 capital_bounds b h = (leb-true 65 b (both_left (leb 65 b) (leb b 90) h), leb-true b 90 (both_right (leb 65 b) (leb b 90) h))
@@ -41,18 +41,6 @@ not_cz a b n = go (eqb a 67) (eqb b 90) refl refl
     go true false ex ey = refl
     go false y ex ey = refl
 
-country_not_absent : (a b : ℕ) → Country.Absent ≡ Country.Value a b → ⊥
-country_not_absent a b e = let z : ◌≡◌ {A = ℕ} 0 1 = cc in omega arith
-
-country_not_malformed : (a b : ℕ) → Country.Malformed ≡ Country.Value a b → ⊥
-country_not_malformed a b e = let z : ◌≡◌ {A = ℕ} 0 1 = cc in omega arith
-
-first_same : (a b c d : ℕ) → Country.Value a b ≡ Country.Value c d → a ≡ c
-first_same a b c d e = cc
-
-second_same : (a b c d : ℕ) → Country.Value a b ≡ Country.Value c d → b ≡ d
-second_same a b c d e = cc
-
 two : (f : List ℕ) (a b : ℕ) → length f ≡ 2 → get_or f 0 0 ≡ a → get_or f 1 0 ≡ b → f ≡ a ∷ b ∷ []
 two f a b l ea eb = rw (← ea, ← eb) (rw (spelled 2 f l))
 
@@ -65,7 +53,7 @@ country_is a b h f e = record {
 }
 
 is_country_lem : (f : List ℕ) (a b : ℕ) → IsCountryOf f a b
-    → GoodPart 2 f (is_country (get_or f 0 0) (get_or f 1 0)) × (Country.Value (get_or f 0 0) (get_or f 1 0) ≡ Country.Value a b)
+    → GoodPart 2 f (is_country (get_or f 0 0) (get_or f 1 0)) × (capitals (get_or f 0 0) (get_or f 1 0) ≡ capitals a b)
 is_country_lem f a b i =
     let long : length f ≡ 2 = rw i.bytes in
     let x : get_or f 0 0 ≡ a = rw i.bytes in
@@ -79,30 +67,24 @@ is_country_lem f a b i =
       rw (x, y),
     )
 
-pub country_exactly : (f : List ℕ) (a b : ℕ) → (read_country f ≡ Country.Value a b) ↔ IsCountryOf f a b
+pub country_exactly : (f : List ℕ) (a b : ℕ) → (read_country f ≡ Value (capitals a b)) ↔ IsCountryOf f a b
 country_exactly f a b =
-    let c = value_exactly Country.Absent Country.Malformed 2 f (is_country (get_or f 0 0) (get_or f 1 0)) (Country.Value (get_or f 0 0) (get_or f 1 0)) (Country.Value a b) (country_not_absent a b) (country_not_malformed a b) in (
+    let c = reads_exactly 2 f (is_country (get_or f 0 0) (get_or f 1 0)) (capitals (get_or f 0 0) (get_or f 1 0)) (capitals a b) in (
       λ h. let p = c.0 h in
-          let x = first_same (get_or f 0 0) (get_or f 1 0) a b p.1 in
-          let y = second_same (get_or f 0 0) (get_or f 1 0) a b p.1 in
+          let x : get_or f 0 0 ≡ a = ap (λ k. k.0) p.1 in
+          let y : get_or f 1 0 ≡ b = ap (λ k. k.1) p.1 in
           country_is a b (rw (x, y) at p.0.fine) f (two f a b p.0.long x y),
       λ i. c.1 (is_country_lem f a b i),
     )
 
-pub country_absent : (f : List ℕ) → (read_country f ≡ Country.Absent) ↔ (f ≡ replicate 2 32)
-country_absent f =
-    let a : ℕ = get_or f 0 0 in
-    let b : ℕ = get_or f 1 0 in
-    absent_spaces Country.Absent Country.Malformed 2 f (is_country a b) (Country.Value a b) (λ e. country_not_absent a b (sym e)) differ
-  where
-    differ : Country.Malformed ≡ Country.Absent → ⊥
-    differ e = let z : ◌≡◌ {A = ℕ} 0 1 = cc in omega arith
+pub country_absent : (f : List ℕ) → (read_country f ≡ Absent) ↔ (f ≡ replicate 2 32)
+country_absent f = reads_absent 2 f (is_country (get_or f 0 0) (get_or f 1 0)) (capitals (get_or f 0 0) (get_or f 1 0))
 
 -- ---- 14 and 25: blank
-pub empty_exactly : (w : ℕ) (f : List ℕ) → (read_empty w f ≡ Empty.Absent) ↔ (f ≡ replicate w 32)
-empty_exactly w f = absent_spaces Empty.Absent Empty.Malformed w f false Empty.Malformed differ differ
+pub empty_exactly : (w : ℕ) (f : List ℕ) → (read_empty w f ≡ Ok tt) ↔ (f ≡ replicate w 32)
+empty_exactly w f = absent_spaces (Ok tt) (Err no_form) w f false (Err no_form) differ differ
   where
-    differ : Empty.Malformed ≡ Empty.Absent → ⊥
+    differ : ◌≡◌ {A = EmptyReading} (Err no_form) (Ok tt) → ⊥
     differ e = let z : ◌≡◌ {A = ℕ} 0 1 = cc in omega arith
 
 -- ---- 19: two spaces, or "0" and a space
@@ -136,31 +118,18 @@ cancelled_exactly f =
         record { long = l; filled = not_blank f 0 (omega arith) (λ q. omega arith); fine = rw e }
 
 -- ---- 22: a right identifier
-main_not_absent : (p : Parts) → Main.Absent ≡ Main.Value p → ⊥
-main_not_absent p e = let z : ◌≡◌ {A = ℕ} 0 1 = cc in omega arith
-
-main_not_malformed : (p : Parts) → Main.Malformed ≡ Main.Value p → ⊥
-main_not_malformed p e = let z : ◌≡◌ {A = ℕ} 0 1 = cc in omega arith
-
-same_parts : (p q : Parts) → Main.Value p ≡ Main.Value q → p ≡ q
-same_parts p q e = cc
-
 right_filled : (f : List ℕ) → right_id f ≡ true → GoodPart 13 f (right_id f)
 unfolding shape_of
 right_filled f h =
     let r = right_facts f h in
     record { long = r.long; filled = not_blank f 12 (omega arith) (λ e. r.known (ap posting_digits e)); fine = h }
 
-pub main_exactly : (f : List ℕ) (p : Parts) → (read_main f ≡ Main.Value p) ↔ ((right_id f ≡ true) × (parts_of f ≡ p))
+pub main_exactly : (f : List ℕ) (p : Parts) → (read_main f ≡ Value p) ↔ ((right_id f ≡ true) × (parts_of f ≡ p))
 main_exactly f p =
-    let c = value_exactly Main.Absent Main.Malformed 13 f (right_id f) (Main.Value (parts_of f)) (Main.Value p) (main_not_absent p) (main_not_malformed p) in (
-      λ h. let k = c.0 h in (k.0.fine, same_parts (parts_of f) p k.1),
-      λ i. c.1 (right_filled f i.0, ap Main.Value i.1),
+    let c = reads_exactly 13 f (right_id f) (parts_of f) p in (
+      λ h. let k = c.0 h in (k.0.fine, k.1),
+      λ i. c.1 (right_filled f i.0, i.1),
     )
 
-pub main_absent : (f : List ℕ) → (read_main f ≡ Main.Absent) ↔ (f ≡ replicate 13 32)
-main_absent f =
-    absent_spaces Main.Absent Main.Malformed 13 f (right_id f) (Main.Value (parts_of f)) (λ e. main_not_absent (parts_of f) (sym e)) differ
-  where
-    differ : Main.Malformed ≡ Main.Absent → ⊥
-    differ e = let z : ◌≡◌ {A = ℕ} 0 1 = cc in omega arith
+pub main_absent : (f : List ℕ) → (read_main f ≡ Absent) ↔ (f ≡ replicate 13 32)
+main_absent f = reads_absent 13 f (right_id f) (parts_of f)

@@ -8,14 +8,9 @@ use mathlib.Core.List.{List}
 use native.Mathlib.Omega.{arith}
 use lib.ListN.{replicate}
 use Rattle.text.proofs.Booleans.{clash}
-use Rattle.fields.specs.declared.numbers.NumberReading.{NumberReading}
-use Rattle.fields.specs.declared.numbers.NumberReading.TheVariants as Number
-use Rattle.fields.specs.declared.texts.TextReading.{TextReading}
-use Rattle.fields.specs.declared.texts.TextReading.TheVariants as Text
-use Rattle.fields.specs.declared.others.CountryReading.{CountryReading}
-use Rattle.fields.specs.declared.others.CountryReading.TheVariants as Country
-use Rattle.fields.specs.declared.postcodes.PostcodeReading.{PostcodeReading}
-use Rattle.fields.specs.declared.postcodes.PostcodeReading.TheVariants.{Absent, Domestic, Foreign, Malformed}
+use Rattle.fields.specs.declared.reading.Reading.TheVariants.{Absent, Value, Malformed}
+use Rattle.fields.specs.Readings.{NumberReading, TextReading, CountryReading, PostcodeReading}
+use Rattle.fields.specs.declared.postcodes.Postcode.TheVariants.{Domestic, Foreign}
 use Rattle.fields.specs.Numbers.{read_digits}
 use Rattle.fields.specs.Texts.{read_text}
 use Rattle.fields.specs.Others.{read_country, absent_country}
@@ -29,10 +24,10 @@ use Rattle.fields.proofs.OtherLaws.{country_absent}
 pub home_exactly : (f : List ℕ) → (absent_country (read_country f) ≡ true) ↔ (f ≡ replicate 2 32)
 home_exactly f = (λ h. (country_absent f).0 (is_absent (read_country f) h), λ e. ap absent_country ((country_absent f).1 e))
   where
-    is_absent : (c : CountryReading) → absent_country c ≡ true → c ≡ Country.Absent
-    is_absent Country.Absent h = refl
-    is_absent (Country.Value a b) h = absurd (clash h refl)
-    is_absent Country.Malformed h = absurd (clash h refl)
+    is_absent : (c : CountryReading) → absent_country c ≡ true → c ≡ Absent
+    is_absent Absent h = refl
+    is_absent (Value c) h = absurd (clash h refl)
+    is_absent Malformed h = absurd (clash h refl)
 
 not_home : (f : List ℕ) → (f ≡ replicate 2 32 → ⊥) → absent_country (read_country f) ≡ false
 not_home f n = go (absent_country (read_country f)) refl
@@ -45,62 +40,62 @@ not_home f n = go (absent_country (read_country f)) refl
 -- readings of different kinds differ
 abbrev kind : PostcodeReading → ℕ
 kind Absent = 0
-kind (Domestic v) = 1
-kind (Foreign n) = 2
+kind (Value (Domestic v)) = 1
+kind (Value (Foreign n)) = 2
 kind Malformed = 3
 
-domestic_absent : (r : NumberReading) → domestic r ≡ Absent → r ≡ Number.Absent
-domestic_absent Number.Absent h = refl
-domestic_absent (Number.Value n) h = absurd (omega (arith, ap kind h))
-domestic_absent Number.Malformed h = absurd (omega (arith, ap kind h))
+domestic_absent : (r : NumberReading) → domestic r ≡ Absent → r ≡ Absent
+domestic_absent Absent h = refl
+domestic_absent (Value n) h = absurd (omega (arith, ap kind h))
+domestic_absent Malformed h = absurd (omega (arith, ap kind h))
 
-domestic_value : (r : NumberReading) (v : ℕ) → domestic r ≡ Domestic v → r ≡ Number.Value v
-domestic_value Number.Absent v h = absurd (omega (arith, ap kind h))
-domestic_value (Number.Value n) v h = cc
-domestic_value Number.Malformed v h = absurd (omega (arith, ap kind h))
+domestic_value : (r : NumberReading) (v : ℕ) → domestic r ≡ Value (Domestic v) → r ≡ Value v
+domestic_value Absent v h = absurd (omega (arith, ap kind h))
+domestic_value (Value n) v h = cc
+domestic_value Malformed v h = absurd (omega (arith, ap kind h))
 
-never_foreign : (r : NumberReading) (n : ℕ) → domestic r ≡ Foreign n → ⊥
-never_foreign Number.Absent n h = omega (arith, ap kind h)
-never_foreign (Number.Value v) n h = omega (arith, ap kind h)
-never_foreign Number.Malformed n h = omega (arith, ap kind h)
+never_foreign : (r : NumberReading) (n : ℕ) → domestic r ≡ Value (Foreign n) → ⊥
+never_foreign Absent n h = omega (arith, ap kind h)
+never_foreign (Value v) n h = omega (arith, ap kind h)
+never_foreign Malformed n h = omega (arith, ap kind h)
 
-foreign_absent : (r : TextReading) → foreign r ≡ Absent → r ≡ Text.Absent
-foreign_absent Text.Absent h = refl
-foreign_absent (Text.Value n) h = absurd (omega (arith, ap kind h))
-foreign_absent Text.Malformed h = absurd (omega (arith, ap kind h))
+foreign_absent : (r : TextReading) → foreign r ≡ Absent → r ≡ Absent
+foreign_absent Absent h = refl
+foreign_absent (Value n) h = absurd (omega (arith, ap kind h))
+foreign_absent Malformed h = absurd (omega (arith, ap kind h))
 
-foreign_value : (r : TextReading) (n : ℕ) → foreign r ≡ Foreign n → r ≡ Text.Value n
-foreign_value Text.Absent n h = absurd (omega (arith, ap kind h))
-foreign_value (Text.Value k) n h = cc
-foreign_value Text.Malformed n h = absurd (omega (arith, ap kind h))
+foreign_value : (r : TextReading) (n : ℕ) → foreign r ≡ Value (Foreign n) → r ≡ Value n
+foreign_value Absent n h = absurd (omega (arith, ap kind h))
+foreign_value (Value k) n h = cc
+foreign_value Malformed n h = absurd (omega (arith, ap kind h))
 
-never_domestic : (r : TextReading) (v : ℕ) → foreign r ≡ Domestic v → ⊥
-never_domestic Text.Absent v h = omega (arith, ap kind h)
-never_domestic (Text.Value n) v h = omega (arith, ap kind h)
-never_domestic Text.Malformed v h = omega (arith, ap kind h)
+never_domestic : (r : TextReading) (v : ℕ) → foreign r ≡ Value (Domestic v) → ⊥
+never_domestic Absent v h = omega (arith, ap kind h)
+never_domestic (Value n) v h = omega (arith, ap kind h)
+never_domestic Malformed v h = omega (arith, ap kind h)
 
 -- ---- which bytes are which reading
 module _ (country : CountryReading) (f : List ℕ) where
-  pub domestic_exactly : (v : ℕ) → (read_postcode country f ≡ Domestic v) ↔ ((absent_country country ≡ true) × IsDigits 5 f v)
+  pub domestic_exactly : (v : ℕ) → (read_postcode country f ≡ Value (Domestic v)) ↔ ((absent_country country ≡ true) × IsDigits 5 f v)
   domestic_exactly v = go (absent_country country) (digits_exactly 5 f v (omega arith))
     where
-      go : (t : Bool) → (read_digits 5 f ≡ Number.Value v) ↔ IsDigits 5 f v
-          → (cond t (domestic (read_digits 5 f)) (foreign (read_text 5 f)) ≡ Domestic v) ↔ ((t ≡ true) × IsDigits 5 f v)
+      go : (t : Bool) → (read_digits 5 f ≡ Value v) ↔ IsDigits 5 f v
+          → (cond t (domestic (read_digits 5 f)) (foreign (read_text 5 f)) ≡ Value (Domestic v)) ↔ ((t ≡ true) × IsDigits 5 f v)
       go true e = (λ h. (refl, e.0 (domestic_value (read_digits 5 f) v h)), λ p. ap domestic (e.1 p.1))
       go false e = (λ h. absurd (never_domestic (read_text 5 f) v h), λ p. absurd (clash p.0 refl))
 
-  pub foreign_exactly : (n : ℕ) → (read_postcode country f ≡ Foreign n) ↔ ((absent_country country ≡ false) × IsTextOf 5 f n)
+  pub foreign_exactly : (n : ℕ) → (read_postcode country f ≡ Value (Foreign n)) ↔ ((absent_country country ≡ false) × IsTextOf 5 f n)
   foreign_exactly n = go (absent_country country) (text_exactly 5 f n)
     where
-      go : (t : Bool) → (read_text 5 f ≡ Text.Value n) ↔ IsTextOf 5 f n
-          → (cond t (domestic (read_digits 5 f)) (foreign (read_text 5 f)) ≡ Foreign n) ↔ ((t ≡ false) × IsTextOf 5 f n)
+      go : (t : Bool) → (read_text 5 f ≡ Value n) ↔ IsTextOf 5 f n
+          → (cond t (domestic (read_digits 5 f)) (foreign (read_text 5 f)) ≡ Value (Foreign n)) ↔ ((t ≡ false) × IsTextOf 5 f n)
       go true e = (λ h. absurd (never_foreign (read_digits 5 f) n h), λ p. absurd (clash refl p.0))
       go false e = (λ h. (refl, e.0 (foreign_value (read_text 5 f) n h)), λ p. ap foreign (e.1 p.1))
 
   pub postcode_absent : (read_postcode country f ≡ Absent) ↔ (f ≡ replicate 5 32)
   postcode_absent = go (absent_country country) (digits_absent 5 f) (text_absent 5 f)
     where
-      go : (t : Bool) → (read_digits 5 f ≡ Number.Absent) ↔ (f ≡ replicate 5 32) → (read_text 5 f ≡ Text.Absent) ↔ (f ≡ replicate 5 32)
+      go : (t : Bool) → (read_digits 5 f ≡ Absent) ↔ (f ≡ replicate 5 32) → (read_text 5 f ≡ Absent) ↔ (f ≡ replicate 5 32)
           → (cond t (domestic (read_digits 5 f)) (foreign (read_text 5 f)) ≡ Absent) ↔ (f ≡ replicate 5 32)
       go true d e = (λ h. d.0 (domestic_absent (read_digits 5 f) h), λ s. ap domestic (d.1 s))
       go false d e = (λ h. e.0 (foreign_absent (read_text 5 f) h), λ s. ap foreign (e.1 s))
@@ -110,8 +105,7 @@ absent_exactly country f = (λ h. (postcode_absent country f).0 (is_absent (read
   where
     is_absent : (r : PostcodeReading) → absent_postcode r ≡ true → r ≡ Absent
     is_absent Absent h = refl
-    is_absent (Domestic v) h = absurd (clash h refl)
-    is_absent (Foreign n) h = absurd (clash h refl)
+    is_absent (Value v) h = absurd (clash h refl)
     is_absent Malformed h = absurd (clash h refl)
 
 -- ---- which bytes are a good postcode beside those of the country
@@ -123,8 +117,8 @@ good_postcode_exactly country f = (to (read_postcode c f) refl, from)
 
     to : (r : PostcodeReading) → read_postcode c f ≡ r → malformed_postcode r ≡ false → GoodPostcode country f
     to Absent e h = blank ((postcode_absent c f).0 e)
-    to (Domestic v) e h = let p = (domestic_exactly c f v).0 e in at_home v ((home_exactly country).0 p.0) p.1
-    to (Foreign n) e h = let p = (foreign_exactly c f n).0 e in abroad n (λ s. clash ((home_exactly country).1 s) p.0) p.1
+    to (Value (Domestic v)) e h = let p = (domestic_exactly c f v).0 e in at_home v ((home_exactly country).0 p.0) p.1
+    to (Value (Foreign n)) e h = let p = (foreign_exactly c f n).0 e in abroad n (λ s. clash ((home_exactly country).1 s) p.0) p.1
     to Malformed e h = absurd (clash refl h)
 
     from : GoodPostcode country f → malformed_postcode (read_postcode c f) ≡ false

@@ -9,16 +9,18 @@ use borrow.Author.Tests.{eq-eqb, ne_eqb, lt-ltb, le-ltb, le-leb, lt-leb, leb-tru
 use lib.Dec.{eqb, leb, ltb}
 use lib.ListN.{length, get_or, take, drop, length-drop}
 use lib.Seq.{take_all, append_snoc}
-use Rattle.text.specs.Bytes.{every, is_blank}
+use Rattle.text.specs.Bytes.{is_blank}
 use Rattle.text.specs.Numbers.{digits, decimal_places_up_to}
 use Rattle.text.proofs.Lists.{step, ended}
 use Rattle.fields.specs.declared.services.Scan.{Scan}
 use Rattle.fields.specs.declared.services.Services.{Services}
-use Rattle.fields.specs.declared.services.ServicesReading.{ServicesReading}
-use Rattle.fields.specs.declared.services.ServicesReading.TheVariants.{Absent, Value, Malformed}
+use Rattle.fields.specs.declared.reading.Reading.TheVariants.{Absent, Value, Malformed}
+use Rattle.fields.specs.Readings.{ServicesReading}
 use Rattle.fields.specs.Codes.{numbers_from, codes, number_for, is_code}
-use Rattle.fields.specs.Services.{in_front, words, numbers_in, bit, has_code, no_services, with_code, added, read_by, read_services, services_in, how_many, several_sizes}
-use Rattle.fields.specs.Scans.{with_byte, key_from, key_of, number_at, codes_from, scan_of, added_one, joined_by, behind_plus, behind_byte, finished}
+use Rattle.fields.specs.Services.{in_front, words, numbers_in, bit, has_code, no_services, with_code, added, read_by, read_services, how_many, several_sizes}
+use Rattle.fields.specs.Frame.{framed, or_malformed, IsFramed}
+use Rattle.std.specs.Prelude.{Option, Some, None, is_some, option_map}
+use Rattle.fields.specs.Scans.{with_byte, key_from, key_of, number_at, unless_0, codes_from, scan_of, added_one, behind_byte, finished}
 use Rattle.fields.proofs.Bits.{with_fits, bit_past}
 use Rattle.fields.proofs.CodeWays.{key_stuck, code_by_key}
 
@@ -87,113 +89,117 @@ pub with_high : (s : Services) (c : ℕ) → 64 ≤ c → record { low = s.low; 
 unfolding with_code
 with_high s c h = rw (le-ltb c 64 h)
 
--- ---- add_code
-module _ (s : Services) (c : ℕ) (h : Bool) (eh : h ≡ has_code s c) where
-  good_is : (t : Bool) → (leb 1 c && leb c 127 && not h) ≡ t → (is_code c && not (has_code s c)) ≡ t
-  good_is t g = rw (← eh) g
-
-  pub can_add : (leb 1 c && leb c 127 && not h) ≡ true → (is_code c ≡ true) × (has_code s c ≡ false)
-  can_add g =
-      let p = (and-eq-true_iff (is_code c) (not (has_code s c))).0 (good_is true g) in
-      (p.0, false_is (has_code s c) p.1)
+-- ---- with_word
+module _ (s : Services) (n : ℕ) (o : Option ℕ) (eo : o ≡ unless_0 n) where
+  pub word_none : o ≡ None → None ≡ added_one s n
+  unfolding added_one
+  word_none e = go (eqb n 0) refl (sym e ∙ eo)
     where
-      false_is : (b : Bool) → not b ≡ true → b ≡ false
-      false_is b e = not-true b e
+      go : (t : Bool) → eqb n 0 ≡ t → None ≡ cond t None (Some n) → None ≡ cond (is_code n && not (has_code s n)) (Some (with_code s n)) None
+      go true z q = rw (eqb-true n 0 z)
+      go false z q = cc
 
-  pub adds : (r : Services) → (leb 1 c && leb c 127 && not h) ≡ true → r ≡ with_code s c → Value r ≡ added_one s c
-  unfolding added_one
-  adds r g e = rw (good_is true g, e)
+  module _ (c : ℕ) (ec : o ≡ Some c) where
+    same_code : c ≡ n
+    same_code = go (eqb n 0) (sym ec ∙ eo)
+      where
+        go : (t : Bool) → Some c ≡ cond t None (Some n) → c ≡ n
+        go true q = cc
+        go false q = cc
 
-  pub adds_not : (leb 1 c && leb c 127 && not h) ≡ false → Malformed ≡ added_one s c
-  unfolding added_one
-  adds_not g = rw (good_is false g)
+    module _ (h : Bool) (eh : h ≡ has_code s c) where
+      pub can_add : (leb 1 c && leb c 127 && not h) ≡ true → (is_code c ≡ true) × (has_code s c ≡ false)
+      can_add g =
+          let p = (and-eq-true_iff (is_code c) (not h)).0 g in
+          (p.0, sym eh ∙ not-true h p.1)
 
--- ---- behind_plus, behind, finished
-pub plus_joins : (s : Scan) (c : ℕ) (r : ServicesReading) (more : Services) → c ≡ number_at codes s.word → r ≡ added_one s.services c → r ≡ Value more → scan_of more 0 s.bad ≡ behind_plus s
-unfolding behind_plus
-plus_joins s c r more f e g = rw (← f, ← e, g)
+      pub adds : (r : Services) → (leb 1 c && leb c 127 && not h) ≡ true → r ≡ with_code s c → Some r ≡ added_one s n
+      unfolding added_one
+      adds r g e = rw (← same_code, ← eh, g, e)
 
-pub plus_absent : (s : Scan) (c : ℕ) (r : ServicesReading) → c ≡ number_at codes s.word → r ≡ added_one s.services c → r ≡ Absent → scan_of s.services 0 true ≡ behind_plus s
-unfolding behind_plus
-plus_absent s c r f e g = rw (← f, ← e, g)
+      pub adds_not : (leb 1 c && leb c 127 && not h) ≡ false → None ≡ added_one s n
+      unfolding added_one
+      adds_not g = rw (← same_code, ← eh, g)
 
-pub plus_fails : (s : Scan) (c : ℕ) (r : ServicesReading) → c ≡ number_at codes s.word → r ≡ added_one s.services c → r ≡ Malformed → scan_of s.services 0 true ≡ behind_plus s
-unfolding behind_plus
-plus_fails s c r f e g = rw (← f, ← e, g)
+-- ---- behind, finished
+module _ (s : Scan) (b : ℕ) (plus : b ≡ 43) (o : Option Services) (eo : o ≡ added_one s.services (number_at codes s.word)) where
+  pub plus_joins : (more : Services) → o ≡ Some more → Some (scan_of more 0) ≡ behind_byte s b
+  unfolding behind_byte
+  plus_joins more e = rw (eq-eqb b 43 plus, ← eo, e)
 
-pub byte_plus : (s t : Scan) (b : ℕ) → b ≡ 43 → t ≡ behind_plus s → t ≡ behind_byte s b
-unfolding behind_byte
-byte_plus s t b e g = rw (eq-eqb b 43 e) g
+  pub plus_fails : o ≡ None → None ≡ behind_byte s b
+  unfolding behind_byte
+  plus_fails e = rw (eq-eqb b 43 plus, ← eo, e)
 
-pub byte_joins : (s : Scan) (b w : ℕ) → (b ≡ 43 → ⊥) → w ≡ with_byte s.word b → scan_of s.services w s.bad ≡ behind_byte s b
+pub byte_joins : (s : Scan) (b w : ℕ) → (b ≡ 43 → ⊥) → w ≡ with_byte s.word b → Some (scan_of s.services w) ≡ behind_byte s b
 unfolding behind_byte
 byte_joins s b w n e = rw (ne_eqb b 43 n, e)
 
-pub finish_adds : (s : Scan) (rest : List ℕ) (b : Bool) (c : ℕ) (r : ServicesReading) → b ≡ is_blank rest → (b && not s.bad) ≡ true → c ≡ number_at codes s.word
-    → r ≡ added_one s.services c → r ≡ finished s rest
+pub finish_adds : (s : Scan) (rest : List ℕ) (b : Bool) (o : Option Services) → b ≡ is_blank rest → b ≡ true → o ≡ added_one s.services (number_at codes s.word) → o ≡ finished s rest
 unfolding finished
-finish_adds s rest b c r e g f h = rw (← e, g, ← f) h
+finish_adds s rest b o e t g = rw (← e, t) g
 
-pub finish_not : (s : Scan) (rest : List ℕ) (b : Bool) → b ≡ is_blank rest → (b && not s.bad) ≡ false → Malformed ≡ finished s rest
+pub finish_not : (s : Scan) (rest : List ℕ) (b : Bool) → b ≡ is_blank rest → b ≡ false → None ≡ finished s rest
 unfolding finished
-finish_not s rest b e g = rw (← e, g)
+finish_not s rest b e t = rw (← e, t)
 
 -- ---- the scan: what it gives for the bytes that are left
 unfoldable pub scanned : Scan → List ℕ → ServicesReading
-scanned s bs = cond s.bad Malformed (added s.services (codes_from s.word bs))
+scanned s bs = added s.services (codes_from s.word bs)
+
+one_of : (t : Bool) (x : Services) → cond t (Value x) Malformed ≡ or_malformed (cond t (Some x) None)
+one_of true x = refl
+one_of false x = refl
 
 -- where the words end
-scan_end : (s : Scan) (bs : List ℕ) → codes_from s.word bs ≡ cond (is_blank bs) (number_at codes s.word) 0 ∷ [] → scanned s bs ≡ finished s bs
+scan_end : (s : Scan) (bs : List ℕ) → codes_from s.word bs ≡ cond (is_blank bs) (number_at codes s.word) 0 ∷ [] → scanned s bs ≡ or_malformed (finished s bs)
 unfolding scanned finished added added_one
-scan_end s bs e = rw e (go (number_at codes s.word) s.bad (is_blank bs))
+scan_end s bs e = rw e (go (number_at codes s.word) (is_blank bs))
   where
-    go : (c : ℕ) (p q : Bool) → cond p Malformed (cond (is_code (cond q c 0) && not (has_code s.services (cond q c 0))) (Value (with_code s.services (cond q c 0))) Malformed)
-        ≡ cond (q && not p) (cond (is_code c && not (has_code s.services c)) (Value (with_code s.services c)) Malformed) Malformed
-    go c true true = refl
-    go c true false = refl
-    go c false true = refl
-    go c false false = refl
+    go : (c : ℕ) (q : Bool) → cond (is_code (cond q c 0) && not (has_code s.services (cond q c 0))) (Value (with_code s.services (cond q c 0))) Malformed
+        ≡ or_malformed (cond q (cond (is_code c && not (has_code s.services c)) (Some (with_code s.services c)) None) None)
+    go c true = one_of (is_code c && not (has_code s.services c)) (with_code s.services c)
+    go c false = refl
 
--- the scan behind a "+", where the word is a new code and where it is none
-abbrev joined_if : Scan → Bool → Scan
-joined_if s q = joined_by s (cond q (Value (with_code s.services (number_at codes s.word))) Malformed)
+-- one byte on
+abbrev scanned_or : Option Scan → List ℕ → ServicesReading
+scanned_or None bs = Malformed
+scanned_or (Some t) bs = scanned t bs
 
-plus_on : (s : Scan) (bs : List ℕ) → scanned (behind_plus s) bs ≡ cond s.bad Malformed (added s.services (number_at codes s.word ∷ codes_from 0 bs))
-unfolding scanned behind_plus added_one added
-plus_on s bs = go (is_code (number_at codes s.word) && not (has_code s.services (number_at codes s.word)))
-  where
-    go : (q : Bool) → cond (joined_if s q).bad Malformed (added (joined_if s q).services (codes_from (joined_if s q).word bs))
-        ≡ cond s.bad Malformed (cond q (added (with_code s.services (number_at codes s.word)) (codes_from 0 bs)) Malformed)
-    go true = refl
-    go false = both s.bad
-      where
-        both : (t : Bool) → Malformed ≡ cond t Malformed Malformed
-        both true = refl
-        both false = refl
-
-scan_step : (s : Scan) (b : ℕ) (bs : List ℕ) → 32 < b → scanned (behind_byte s b) bs ≡ scanned s (b ∷ bs)
-unfolding scanned behind_byte codes_from
+scan_step : (s : Scan) (b : ℕ) (bs : List ℕ) → 32 < b → scanned_or (behind_byte s b) bs ≡ scanned s (b ∷ bs)
+unfolding scanned behind_byte codes_from added added_one
 scan_step s b bs h = rw (lt-leb b 32 h) (go (eqb b 43))
   where
-    go : (q : Bool) → scanned (cond q (behind_plus s) (scan_of s.services (with_byte s.word b) s.bad)) bs
-        ≡ cond s.bad Malformed (added s.services (cond q (number_at codes s.word ∷ codes_from 0 bs) (codes_from (with_byte s.word b) bs)))
-    go true = plus_on s bs
+    joined : (t : Bool) (x : Services) → scanned_or (option_map (λ t. scan_of t 0) (cond t (Some x) None)) bs ≡ cond t (added x (codes_from 0 bs)) Malformed
+    joined true x = refl
+    joined false x = refl
+
+    go : (q : Bool) → scanned_or (cond q (option_map (λ t. scan_of t 0) (added_one s.services (number_at codes s.word))) (Some (scan_of s.services (with_byte s.word b)))) bs
+        ≡ added s.services (cond q (number_at codes s.word ∷ codes_from 0 bs) (codes_from (with_byte s.word b) bs))
+    go true = joined (is_code (number_at codes s.word) && not (has_code s.services (number_at codes s.word))) (with_code s.services (number_at codes s.word))
     go false = refl
 
 module _ (f : List ℕ) (s : Scan) (i : ℕ) (r : ServicesReading) (known : scanned s (drop i f) ≡ r) where
-  pub scan_on : (t : Scan) → i < length f → 32 < get_or f i 0 → t ≡ behind_byte s (get_or f i 0) → scanned t (drop (i + 1) f) ≡ r
-  scan_on t h n g = rw g (scan_step s (get_or f i 0) (drop (i + 1) f) n ∙ rw (← step f i h) known)
+  here : (o : Option Scan) → i < length f → 32 < get_or f i 0 → o ≡ behind_byte s (get_or f i 0) → scanned_or o (drop (i + 1) f) ≡ r
+  here o h n g = rw g (scan_step s (get_or f i 0) (drop (i + 1) f) n ∙ rw (← step f i h) known)
 
-  rest_is : i ≤ length f → take (length f - i) (drop i f) ≡ drop i f
-  rest_is l = take_all (length f - i) (drop i f) (rw length-drop (omega arith))
+  pub scan_on : (o : Option Scan) (t : Scan) → i < length f → 32 < get_or f i 0 → o ≡ behind_byte s (get_or f i 0) → o ≡ Some t → scanned t (drop (i + 1) f) ≡ r
+  scan_on o t h n g e = rw e at (here o h n g)
 
-  pub scan_stops : (out : ServicesReading) → i < length f → get_or f i 0 ≤ 32 → out ≡ finished s (take (length f - i) (drop i f)) → out ≡ r
+  pub scan_fails : (o : Option Scan) → i < length f → 32 < get_or f i 0 → o ≡ behind_byte s (get_or f i 0) → o ≡ None → Malformed ≡ r
+  scan_fails o h n g e = rw e at (here o h n g)
+
+  pub scan_stops : (out : Option Services) → i < length f → get_or f i 0 ≤ 32 → out ≡ finished s (take (length f - i) (drop i f)) → or_malformed out ≡ r
   unfolding codes_from
-  scan_stops out h n g = g ∙ rw (rest_is (omega arith)) (sym (scan_end s (drop i f) (rw (step f i h, le-leb (get_or f i 0) 32 n)))) ∙ known
+  scan_stops out h n g =
+      let rest : take (length f - i) (drop i f) ≡ drop i f = take_all (length f - i) (drop i f) (rw length-drop (omega arith)) in
+      rw (g, rest) (sym (scan_end s (drop i f) (rw (step f i h, le-leb (get_or f i 0) 32 n)))) ∙ known
 
-  pub scan_ends : (out : ServicesReading) → length f ≤ i → i ≤ length f → out ≡ finished s (take (length f - i) (drop i f)) → out ≡ r
-  unfolding codes_from every
-  scan_ends out h l g = g ∙ rw (rest_is l) (sym (scan_end s (drop i f) (rw (ended f i h)))) ∙ known
+  pub scan_ends : (out : Option Services) → length f ≤ i → out ≡ added_one s.services (number_at codes s.word) → or_malformed out ≡ r
+  unfolding codes_from finished
+  scan_ends out h g =
+      let none : drop i f ≡ [] = ended f i h in
+      rw g (sym (scan_end s [] refl)) ∙ ap (scanned s) (sym none) ∙ known
 
 -- ---- what the scan reads are the numbers of the words
 abbrev ahead : List ℕ → List (List ℕ) → List (List ℕ)
@@ -246,7 +252,7 @@ AsWords bs = (s : Services) (w : List ℕ) → added s (codes_from (key_of w) bs
 
 module _ (b : ℕ) (bs : List ℕ) (s : Services) (w : List ℕ) where
   as_blank : is_blank (b ∷ bs) ≡ true → added s (codes_from (key_of w) (b ∷ bs)) ≡ added s (map (number_for codes) (ahead w (words (b ∷ bs))))
-  unfolding codes_from words every
+  unfolding codes_from words
   as_blank e =
       let space = eqb-true b 32 ((and-eq-true_iff (eqb b 32) (is_blank bs)).0 e).0 in
       rw (e, le-leb b 32 (omega arith), append-nil w, code_by_key w)
@@ -280,26 +286,21 @@ as_words (b ∷ bs) s w = go (is_blank (b ∷ bs)) (leb b 32) (eqb b 43) refl re
     go false false true ee el ep rest = as_plus b bs s w ee (leb-false b 32 el) ep rest
     go false false false ee el ep rest = as_byte b bs s w ee (leb-false b 32 el) ep rest
 
-pub scan_start : (f : List ℕ) → scanned (scan_of no_services 0 false) (drop 0 f) ≡ added no_services (numbers_in codes f)
+pub scan_start : (f : List ℕ) → scanned (scan_of no_services 0) (drop 0 f) ≡ added no_services (numbers_in codes f)
 unfolding scanned key_from
 scan_start f = as_words f no_services [] ∙ ap (λ (ws : List (List ℕ)). added no_services (map (number_for codes) ws)) (ahead_none f)
 
 -- ---- read_services
-pub services_wide : (f : List ℕ) → (length f ≡ 30 → ⊥) → Malformed ≡ read_services f
-unfolding read_by
-services_wide f n = rw (ne_eqb (length f) 30 n)
+pub services_are : (f : List ℕ) (P : Option Services → Type 0) (r : ServicesReading) → IsFramed 30 f P r → ((o : Option Services) → P o → or_malformed o ≡ added no_services (numbers_in codes f))
+    → r ≡ read_services f
+unfolding IsFramed framed read_by
+services_are f P r is each = is.2 ∙ go (eqb (length f) 30) (is_blank f) refl refl
+  where
+    told : (o : Option Services) → cond (is_some o) (or_malformed o) Malformed ≡ or_malformed o
+    told None = refl
+    told (Some s) = refl
 
-pub services_blank : (f : List ℕ) (b : Bool) → length f ≡ 30 → b ≡ is_blank f → b ≡ true → Absent ≡ read_services f
-unfolding read_by
-services_blank f b long e t = rw (eq-eqb (length f) 30 long, ← e, t)
-
-pub services_read : (f : List ℕ) (b : Bool) (r : ServicesReading) → length f ≡ 30 → b ≡ is_blank f → b ≡ false → r ≡ added no_services (numbers_in codes f) → r ≡ read_services f
-unfolding read_by
-services_read f b r long e t g = rw (eq-eqb (length f) 30 long, ← e, t) g
-
--- ---- what the rules ask
-pub services_none : (r : ServicesReading) → r ≡ Absent → no_services ≡ services_in r
-services_none r e = rw e
-
-pub services_bad : (r : ServicesReading) → r ≡ Malformed → no_services ≡ services_in r
-services_bad r e = rw e
+    go : (l b : Bool) → eqb (length f) 30 ≡ l → is_blank f ≡ b → cond l (cond b Absent (cond (is_some is.0) (or_malformed is.0) Malformed)) Malformed ≡ cond l (cond b Absent (added no_services (numbers_in codes f))) Malformed
+    go false b el eb = refl
+    go true true el eb = refl
+    go true false el eb = told is.0 ∙ each is.0 (is.1 (eqb-true (length f) 30 el) eb)

@@ -15,13 +15,14 @@ use Rattle.text.specs.Numbers.{digits, decimal_places_up_to}
 use Rattle.text.proofs.Booleans.{clash, both}
 use Rattle.text.proofs.Lists.{same_refl, same_exactly}
 use Rattle.fields.specs.declared.services.Services.{Services}
-use Rattle.fields.specs.declared.services.ServicesReading.{ServicesReading}
-use Rattle.fields.specs.declared.services.ServicesReading.TheVariants.{Absent, Value, Malformed}
+use Rattle.fields.specs.declared.reading.Reading.TheVariants.{Absent, Value, Malformed}
+use Rattle.fields.specs.Readings.{ServicesReading}
 use Rattle.fields.specs.Texts.{contains}
 use Rattle.fields.specs.Codes.{Code, numbers_from, codes, number_for, text_for, has_number, has_text, is_code, in_word, is_word, told_apart}
 use Rattle.fields.specs.Services.{in_front, words, numbers_in, bit, has_code, no_services, with_code, added, read_by, malformed_services}
 use Rattle.fields.specs.ServiceTexts.{plus_joined, services_text, all_different, with_codes, services_of, Writes, GoodServices, blank, written}
 use Rattle.fields.proofs.Bits.{bit_with, bit_none}
+use Rattle.fields.proofs.FrameLaws.{same_value}
 use Rattle.fields.proofs.ByteLaws.{spaces_blank, blank_exactly}
 
 -- ---- which codes a set has
@@ -56,12 +57,11 @@ abbrev apart : Services → List ℕ → Bool
 apart s cs = every (λ c. not (has_code s c)) cs
 
 apart_none : (cs : List ℕ) → apart no_services cs ≡ true
-unfolding every
 apart_none [] = refl
 apart_none (c ∷ cs) = rw (has_none c, apart_none cs)
 
 apart_with : (s : Services) (c : ℕ) (cs : List ℕ) → has_code s c ≡ false → apart (with_code s c) cs ≡ (not (contains c cs) && apart s cs)
-unfolding every contains
+unfolding contains
 apart_with s c [] new = refl
 apart_with s c (k ∷ cs) new = rw (has_with s c k new, apart_with s c cs new) (go (eqb k c) (has_code s k) (contains c cs) (apart s cs))
   where
@@ -80,7 +80,7 @@ eqb_swap a b = go (eqb b a) refl
     go false e = ne_eqb a b (λ q. eqb-false b a e (sym q))
 
 has_from : (s : Services) (cs : List ℕ) (k : ℕ) → all_different cs ≡ true → apart s cs ≡ true → has_code (with_codes s cs) k ≡ (contains k cs || has_code s k)
-unfolding with_codes all_different contains every
+unfolding with_codes all_different contains
 has_from s [] k d a = refl
 has_from s (c ∷ cs) k d a =
     let p = (and-eq-true_iff (not (contains c cs)) (all_different cs)).0 d in
@@ -102,7 +102,7 @@ abbrev addable : Services → List ℕ → Bool
 addable s cs = every is_code cs && (all_different cs && apart s cs)
 
 added_is : (s : Services) (cs : List ℕ) → added s cs ≡ cond (addable s cs) (Value (with_codes s cs)) Malformed
-unfolding added every all_different with_codes
+unfolding added all_different with_codes
 added_is s [] = refl
 added_is s (c ∷ cs) = go (is_code c) (has_code s c) refl (λ new. added_is (with_code s c) cs ∙ rw (apart_with s c cs new))
   where
@@ -120,9 +120,6 @@ added_is s (c ∷ cs) = go (is_code c) (has_code s c) refl (λ new. added_is (wi
     go false h e rest = refl
     go true true e rest = rw (never (every is_code cs) (not (contains c cs) && all_different cs))
     go true false e rest = rest e ∙ rw (order (every is_code cs) (all_different cs) (not (contains c cs)) (apart s cs))
-
-value_of : (a b : Services) → Value a ≡ Value b → a ≡ b
-value_of a b e = cc
 
 -- ---- codes that can be told apart
 record Row (c : Code) (cs : List Code) : Type 0 where
@@ -232,11 +229,11 @@ joined_again (b ∷ f) = go (is_blank (b ∷ f)) refl (eqb b 43) refl (joined_ag
 -- words that are joined come apart again
 module _ (b : ℕ) (f : List ℕ) where
   word_byte : in_word b ≡ true → words (b ∷ f) ≡ in_front b (words f)
-  unfolding words every
+  unfolding words
   word_byte h = let p = both (not (eqb b 32)) (not (eqb b 43)) h in rw (not-true (eqb b 32) p.0, not-true (eqb b 43) p.1)
 
 word_plus : (w f : List ℕ) → every in_word w ≡ true → words (w ++ 43 ∷ f) ≡ w ∷ words f
-unfolding words every
+unfolding words
 word_plus [] f h = refl
 word_plus (b ∷ w) f h = let p = both (in_word b) (every in_word w) h in word_byte b (w ++ 43 ∷ f) p.0 ∙ ap (in_front b) (word_plus w f p.1)
 
@@ -246,12 +243,10 @@ blank_words [] h = refl
 blank_words (b ∷ f) h = rw h
 
 word_spaces : (w : List ℕ) (k : ℕ) → every in_word w ≡ true → words (w ++ replicate k 32) ≡ w ∷ []
-unfolding every
 word_spaces [] k h = blank_words (replicate k 32) (spaces_blank k)
 word_spaces (b ∷ w) k h = let p = both (in_word b) (every in_word w) h in word_byte b (w ++ replicate k 32) p.0 ∙ ap (in_front b) (word_spaces w k p.1)
 
 word_bytes : (w : List ℕ) → is_word w ≡ true → every in_word w ≡ true
-unfolding every
 word_bytes [] h = refl
 word_bytes (b ∷ w) h = h
 
@@ -261,7 +256,7 @@ module _ (table : List Code) (apart-codes : told_apart table ≡ true) where
   text_bytes n h = word_bytes (text_for table n) (told table n apart-codes h).word
 
   written_words : (n : ℕ) (ns : List ℕ) (k : ℕ) → every (has_number table) (n ∷ ns) ≡ true → words (services_text table (n ∷ ns) ++ replicate k 32) ≡ map (text_for table) (n ∷ ns)
-  unfolding plus_joined every
+  unfolding plus_joined
   written_words n [] k h = word_spaces (text_for table n) k (text_bytes n (both (has_number table n) true h).0)
   written_words n (m ∷ ns) k h =
       let p = both (has_number table n) (every (has_number table) (m ∷ ns)) h in
@@ -270,7 +265,6 @@ module _ (table : List Code) (apart-codes : told_apart table ≡ true) where
       ∙ ap (λ (ws : List (List ℕ)). text_for table n ∷ ws) (written_words m ns k p.1)
 
   numbers_back : (ns : List ℕ) → every (has_number table) ns ≡ true → map (number_for table) (map (text_for table) ns) ≡ ns
-  unfolding every
   numbers_back [] h = refl
   numbers_back (n ∷ ns) h =
       let p = both (has_number table n) (every (has_number table) ns) h in
@@ -278,7 +272,6 @@ module _ (table : List Code) (apart-codes : told_apart table ≡ true) where
 
   texts_back : (ws : List (List ℕ)) → every is_code (map (number_for table) ws) ≡ true
       → (every (has_number table) (map (number_for table) ws) ≡ true) × (map (text_for table) (map (number_for table) ws) ≡ ws)
-  unfolding every
   texts_back [] h = (refl, refl)
   texts_back (w ∷ ws) h =
       let p = both (is_code (number_for table w)) (every is_code (map (number_for table) ws)) h in
@@ -287,7 +280,6 @@ module _ (table : List Code) (apart-codes : told_apart table ≡ true) where
       (rw (f.there, r.0), rw (f.text, r.1))
 
   all_codes : (ns : List ℕ) → every (has_number table) ns ≡ true → every is_code ns ≡ true
-  unfolding every
   all_codes [] h = refl
   all_codes (n ∷ ns) h =
       let p = both (has_number table n) (every (has_number table) ns) h in
@@ -319,7 +311,7 @@ module _ (table : List Code) (apart-codes : told_apart table ≡ true) where
               different = q.0;
               long = long;
               text = text ∙ ap (λ (k : ℕ). services_text table ns ++ replicate k 32) rest;
-              set = sym (value_of (services_of ns) s r);
+              set = sym (same_value (services_of ns) s r);
             },
           )
 
@@ -333,7 +325,6 @@ module _ (table : List Code) (apart-codes : told_apart table ≡ true) where
     numbers_are ns w = ap (map (number_for table)) (words_are ns w) ∙ numbers_back ns w.codes
 
     filled : (ns : List ℕ) → Writes table f s ns → is_blank f ≡ false
-    unfolding every
     filled ns w = go (is_blank f) refl ns (words_are ns w) w.codes
       where
         go : (b : Bool) → is_blank f ≡ b → (ns : List ℕ) → words f ≡ map (text_for table) ns → every (has_number table) ns ≡ true → b ≡ false
@@ -391,5 +382,5 @@ good_services_exactly table f apart-codes = (go (read_by table f) refl, back)
 
 -- ---- our table is one of these
 pub codes_told_apart : told_apart codes ≡ true
-unfolding told_apart has_number has_text same_bytes every codes numbers_from digits decimal_places_up_to
+unfolding told_apart has_number has_text same_bytes codes numbers_from digits decimal_places_up_to
 codes_told_apart = refl

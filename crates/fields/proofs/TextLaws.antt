@@ -1,7 +1,7 @@
 -- Fields of CP852 text: exactly which bytes are a text, and how long it is.
 -- Assumes nothing.
 use Prim.Native.Nat.{ℕ, zero, suc, ◌-◌, ◌≤◌, ◌<◌}
-use mathlib.Core.Path.{◌≡◌, refl, sym, ap, ◌∙◌}
+use mathlib.Core.Path.{◌≡◌, refl, sym, ◌∙◌}
 use mathlib.Core.Bool.{Bool, true, false, not, ◌&&◌}
 use mathlib.Core.Logic.{◌↔◌, ◌⊎◌}
 use mathlib.Core.List.{List, [], ◌∷◌}
@@ -11,23 +11,11 @@ use lib.Dec.{eqb}
 use lib.ListN.{length, get_or, drop, replicate, length-drop}
 use Rattle.text.specs.Bytes.{every, is_blank}
 use Rattle.fields.specs.Texts.{is_text, filled, read_text}
-use Rattle.fields.specs.declared.texts.TextReading.TheVariants.{Absent, Value, Malformed}
+use Rattle.fields.specs.declared.reading.Reading.TheVariants.{Absent, Value}
 use Rattle.text.proofs.Booleans.{clash}
 use Rattle.fields.specs.Meanings.{IsTextOf}
 use Rattle.fields.proofs.ByteLaws.{class_exactly, both_left, both_right, blank_exactly, not_blank}
-use Rattle.fields.proofs.FrameLaws.{value_exactly, absent_spaces}
-
-pub not_absent : (n : ℕ) → Absent ≡ Value n → ⊥
-not_absent n e = let z : ◌≡◌ {A = ℕ} 0 1 = cc in omega arith
-
-pub not_malformed : (n : ℕ) → Malformed ≡ Value n → ⊥
-not_malformed n e = let z : ◌≡◌ {A = ℕ} 0 1 = cc in omega arith
-
-pub differs : Malformed ≡ Absent → ⊥
-differs e = let z : ◌≡◌ {A = ℕ} 0 1 = cc in omega arith
-
-pub same_length : (a b : ℕ) → Value a ≡ Value b → a ≡ b
-same_length a b e = cc
+use Rattle.fields.proofs.FrameLaws.{reads_exactly, reads_absent}
 
 -- ---- a byte of text: 20h to 7Eh or 80h to FFh
 pub text_byte_exactly : (b : ℕ) → b < 256 → (is_text b ≡ true) ↔ (((32 ≤ b) × (b ≤ 126)) ⊎ ((128 ≤ b) × (b ≤ 255)))
@@ -64,11 +52,9 @@ ends_here : (b : ℕ) (s : List ℕ) → (b ≡ 32 → ⊥) → is_blank s ≡ t
 ends_here b s n h = record { some = omega arith; within = omega arith; last = n; behind = h }
 
 first_filled : (b : ℕ) (s : List ℕ) → is_blank s ≡ true → is_blank (b ∷ s) ≡ false → b ≡ 32 → ⊥
-unfolding every
 first_filled b s h n e = clash h (rw (eq-eqb b 32 e) at n)
 
 filled_ends : (s : List ℕ) → is_blank s ≡ false → Ends s (filled s)
-unfolding every
 filled_ends [] h = absurd (clash refl h)
 filled_ends (b ∷ s) h = rw (filled_on b s h) (go (is_blank s) refl (filled_ends s))
   where
@@ -112,14 +98,13 @@ ends_of w f n i = record {
 
 pub text_exactly : (w : ℕ) (f : List ℕ) (n : ℕ) → (read_text w f ≡ Value n) ↔ IsTextOf w f n
 text_exactly w f n =
-    let c = value_exactly Absent Malformed w f (every is_text f && not (eqb (get_or f 0 0) 32)) (Value (filled f)) (Value n) (not_absent n) (not_malformed n) in (
+    let c = reads_exactly w f (every is_text f && not (eqb (get_or f 0 0) 32)) (filled f) n in (
       λ h. let p = c.0 h in
           text_is w f n p.0.long (both_left (every is_text f) _ p.0.fine) (both_right (every is_text f) _ p.0.fine)
-          ((filled_exactly f n).0 (p.0.filled, same_length _ n p.1)),
+          ((filled_exactly f n).0 (p.0.filled, p.1)),
       λ i. let e = (filled_exactly f n).1 (ends_of w f n i) in
-          c.1 (record { long = i.long; filled = e.0; fine = rw (i.bytes, ne_eqb (get_or f 0 0) 32 i.first) }, ap Value e.1),
+          c.1 (record { long = i.long; filled = e.0; fine = rw (i.bytes, ne_eqb (get_or f 0 0) 32 i.first) }, e.1),
     )
 
 pub text_absent : (w : ℕ) (f : List ℕ) → (read_text w f ≡ Absent) ↔ (f ≡ replicate w 32)
-text_absent w f =
-    absent_spaces Absent Malformed w f (every is_text f && not (eqb (get_or f 0 0) 32)) (Value (filled f)) (λ e. not_absent (filled f) (sym e)) differs
+text_absent w f = reads_absent w f (every is_text f && not (eqb (get_or f 0 0) 32)) (filled f)

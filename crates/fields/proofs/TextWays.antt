@@ -1,76 +1,77 @@
--- Texts and e-mail: each turn of the loops, and each way out.
+-- Texts and e-mail: std's words for ours, each turn of the loops, and each way out.
 -- Assumes nothing.
+use Rattle.std.specs.Prelude.{Option, Some, None, IfSome, unwrap_or}
+use Rattle.std.specs.Bool.{then_some}
+use Rattle.std.specs.List.{list_any}
 use Prim.Native.Nat.{ℕ, suc, ◌+◌, ◌-◌, ◌≤◌, ◌<◌}
 use mathlib.Core.Path.{◌≡◌, refl, sym, ap, ◌∙◌}
-use mathlib.Core.Bool.{Bool, true, false, cond, not, ◌&&◌, and-eq-true_iff, and-false, or-false}
-use mathlib.Core.List.{List, [], ◌∷◌}
+use mathlib.Core.Bool.{Bool, true, false, cond, not, ◌&&◌, and-eq-true_iff, and-true, and-false}
+use mathlib.Core.List.{List, [], ◌∷◌, ◌++◌}
 use native.Mathlib.Omega.{arith}
-use native.Mathlib.Nat.{sub-zero}
-use borrow.Author.Tests.{eq-eqb, ne_eqb, lt-ltb, le-leb, lt-leb, eqb-true, eqb-false, leb-true, leb-false, not-true, not-false}
-use lib.Dec.{eqb, leb, ltb}
-use lib.ListN.{length, get_or, take, drop, length-drop, get_or-eq_default}
-use lib.Seq.{take_all, drop-length, drop-drop}
+use borrow.Author.Tests.{eq-eqb, ne_eqb, lt-ltb, eqb-true, not-false}
+use lib.Dec.{eqb, ltb}
+use lib.ListN.{length, get_or, take, drop, length-drop, take-append-drop, get_or-eq_default}
+use lib.Seq.{take_all}
 use Rattle.text.specs.Bytes.{every, is_space, is_blank, run}
 use Rattle.text.specs.Lists.{part}
 use Rattle.text.proofs.Booleans.{clash}
-use Rattle.text.proofs.Lists.{step, ended}
-use Rattle.text.proofs.Words.{every_split}
-use Rattle.fields.specs.declared.texts.TextReading.TheVariants.{Absent, Value, Malformed}
-use Rattle.fields.specs.Texts.{is_text, filled, read_text, is_plain, contains, behind_at, is_host, is_mail, mail_end, read_mail}
+use Rattle.text.proofs.Numbers.{every_append}
+use Rattle.fields.specs.declared.reading.Reading.TheVariants.{Absent, Value, Malformed}
+use Rattle.fields.specs.Texts.{is_text, filled, read_text, is_plain, contains, is_host, is_mail, behind_at, mail_end}
 use Rattle.fields.proofs.Frames.{frame_blank, frame_good, frame_bad}
-use Rattle.fields.proofs.TextLaws.{filled_blank, filled_exactly}
+use Rattle.fields.proofs.TextLaws.{filled_blank}
 
--- ---- is_text
-pub text_test : (b : ℕ) → (leb 32 b && not (eqb b 127)) ≡ is_text b
-text_test b = go (leb b 126) (eqb b 127) refl refl
-  where
-    go : (p q : Bool) → leb b 126 ≡ p → eqb b 127 ≡ q → (leb 32 b && not (eqb b 127)) ≡ is_text b
-    go true q ep eq =
-        let low : b ≤ 126 = leb-true b 126 ep in
-        rw (ne_eqb b 127 (λ e. omega arith), ep, lt-leb 128 b (omega arith)) (sym (or-false (leb 32 b && true)))
-    go false true ep eq = rw (eqb-true b 127 eq)
-    go false false ep eq =
-        let high : 126 < b = leb-false b 126 ep in
-        let other : b ≡ 127 → ⊥ = eqb-false b 127 eq in
-        rw (eq, ep, le-leb 32 b (omega arith), le-leb 128 b (omega arith))
+-- ---- std's word for ours
+pub contains_any : (x : ℕ) (s : List ℕ) → list_any (λ b. eqb b x) s ≡ contains x s
+unfolding contains
+contains_any x [] = refl
+contains_any x (b ∷ s) = rw (contains_any x s)
 
--- ---- filled: only spaces from n on
-module _ (f : List ℕ) (n : ℕ) (h : 0 < n) (l : n ≤ length f) (known : is_blank (drop n f) ≡ true) where
-  pub filled_here : (get_or f (n - 1) 0 ≡ 32 → ⊥) → n ≡ filled f
-  filled_here o = sym ((filled_exactly f n).1 (record { some = h; within = l; last = o; behind = known })).1
+-- ---- filled: spaces at the end count for nothing
+blank_append : (a e : List ℕ) → is_blank e ≡ true → is_blank (a ++ e) ≡ is_blank a
+blank_append a e h = every_append is_space a e ∙ rw (h, and-true (is_blank a))
 
-  pub filled_down : get_or f (n - 1) 0 ≡ 32 → is_blank (drop (n - 1) f) ≡ true
-  unfolding every
-  filled_down e =
-      let back : n - 1 + 1 ≡ n = omega arith in
-      rw (step f (n - 1) (omega arith), eq-eqb (get_or f (n - 1) 0) 32 e, back) known
+filled_append : (a e : List ℕ) → is_blank e ≡ true → filled (a ++ e) ≡ filled a
+unfolding filled
+filled_append [] e h = filled_blank e h
+filled_append (b ∷ a) e h = rw (blank_append (b ∷ a) e h, filled_append a e h)
 
-pub blank_eight : (f : List ℕ) (n : ℕ) (b : Bool) → 8 ≤ n → b ≡ is_blank (take (n - (n - 8)) (drop (n - 8) f)) → not b ≡ false → is_blank (drop n f) ≡ true
-    → is_blank (drop (n - 8) f) ≡ true
-blank_eight f n b h e t known =
-    let eight : n - (n - 8) ≡ 8 = omega arith in
-    let back : n - 8 + 8 ≡ n = omega arith in
-    let word : is_blank (take 8 (drop (n - 8) f)) ≡ true = rw eight at (sym e ∙ not-false b t) in
-    let rest : is_blank (drop 8 (drop (n - 8) f)) ≡ true = rw (drop-drop 8 (n - 8) f, back) known in
-    every_split is_space 8 (drop (n - 8) f) ∙ rw (word, rest)
+filled_last : (a : List ℕ) (x : ℕ) → (x ≡ 32 → ⊥) → filled (a ++ x ∷ []) ≡ length a + 1
+unfolding filled
+filled_last [] x n = rw (ne_eqb x 32 n)
+filled_last (b ∷ a) x n =
+    let not_all : is_blank (b ∷ (a ++ x ∷ [])) ≡ false = every_append is_space (b ∷ a) (x ∷ []) ∙ rw (ne_eqb x 32 n) (and-false (is_blank (b ∷ a))) in
+    rw (not_all, filled_last a x n) (omega arith)
 
-pub filled_start : (f : List ℕ) → is_blank (drop (length f) f) ≡ true
-unfolding every
-filled_start f = rw drop-length
+module _ (f s : List ℕ) (known : filled s ≡ filled f) where
+  pub filled_before : (b e : List ℕ) (n : ℕ) (t : Bool) → b ≡ take n s → e ≡ drop n s → t ≡ is_blank e → not t ≡ false → filled b ≡ filled f
+  filled_before b e n t eb ee et y =
+      let blank : is_blank (drop n s) ≡ true = rw (← ee, ← et) (not-false t y) in
+      rw eb (sym (filled_append (take n s) (drop n s) blank) ∙ rw (take-append-drop n s) known)
 
-pub filled_none : (f : List ℕ) (n : ℕ) → n ≤ 0 → is_blank (drop n f) ≡ true → n ≡ filled f
-filled_none f n h known = let z : n ≡ 0 = omega arith in rw z (sym (filled_blank f (rw z at known)))
+  pub filled_less : (b : List ℕ) (x : ℕ) → s ≡ b ++ x ∷ [] → x ≡ 32 → filled b ≡ filled f
+  filled_less b x es e = sym (filled_append b (x ∷ []) (rw e)) ∙ rw (← es) known
+
+  pub filled_here : (b : List ℕ) (x : ℕ) → s ≡ b ++ x ∷ [] → length b + 1 ≡ length s → (x ≡ 32 → ⊥) → length s ≡ filled f
+  filled_here b x es long n = sym long ∙ sym (filled_last b x n) ∙ rw (← es) known
+
+  pub filled_none : length s ≡ 0 → length s ≡ filled f
+  unfolding filled
+  filled_none z = z ∙ sym (nothing s z) ∙ known
+    where
+      nothing : (s : List ℕ) → length s ≡ 0 → filled s ≡ 0
+      nothing [] e = refl
+      nothing (b ∷ s) e = absurd (omega arith)
 
 -- ---- the spaces at the end are text
 blank_text : (s : List ℕ) → is_blank s ≡ true → every is_text s ≡ true
-unfolding every
 blank_text [] e = refl
 blank_text (b ∷ s) e =
     let both = (and-eq-true_iff (eqb b 32) (is_blank s)).0 e in
     rw (eqb-true b 32 both.0, blank_text s both.1)
 
 front_text : (s : List ℕ) → every is_text (take (filled s) s) ≡ every is_text s
-unfolding every filled
+unfolding filled
 front_text [] = refl
 front_text (b ∷ s) = go (is_blank (b ∷ s)) refl (front_text s)
   where
@@ -80,7 +81,7 @@ front_text (b ∷ s) = go (is_blank (b ∷ s)) refl (front_text s)
 
 -- ---- read_text: nothing stands before the spaces exactly if all is blank
 filled_some : (s : List ℕ) → is_blank s ≡ false → 0 < filled s
-unfolding filled every
+unfolding filled
 filled_some [] e = absurd (clash refl e)
 filled_some (b ∷ s) e = rw e (omega arith)
 
@@ -92,43 +93,27 @@ module _ (w : ℕ) (f : List ℕ) (n : ℕ) (long : length f ≡ w) (en : (n ≡
       all true e = refl
       all false e = absurd (omega (arith, filled_some f e, en.0, z))
 
-  module _ (some : n ≡ 0 → ⊥) (t p : Bool) (et : t ≡ every is_text (take (n - 0) (drop 0 f))) (ep : p ≡ eqb (get_or f 0 0) 32) where
+  module _ (some : n ≡ 0 → ⊥) where
     not_all : (b : Bool) → is_blank f ≡ b → b ≡ false
     not_all true e = absurd (some (en.0 ∙ filled_blank f e))
     not_all false e = refl
 
-    tests : (t && not p) ≡ (every is_text f && not (eqb (get_or f 0 0) 32))
-    tests = rw (et, ep, sub-zero n, en.0, front_text f)
+    abbrev good : Bool
+    good = every is_text f && not (eqb (get_or f 0 0) 32)
 
-    pub text_value : (t && not p) ≡ true → Value n ≡ read_text w f
-    text_value g =
-        rw en.0
-        (frame_good Absent Malformed (Value (filled f)) w f (every is_text f && not (eqb (get_or f 0 0) 32)) (is_blank f) long refl (not_all (is_blank f) refl) (sym tests ∙ g))
+    pub text_value : every is_text (take n f) ≡ true → (get_or f 0 0 ≡ 32 → ⊥) → Value n ≡ read_text w f
+    text_value t p =
+        let is : good ≡ true = rw (← front_text f, ← en.0, t, ne_eqb (get_or f 0 0) 32 p) in
+        rw en.0 (frame_good Absent Malformed (Value (filled f)) w f good (is_blank f) long refl (not_all (is_blank f) refl) is)
 
-    pub text_bad : (t && not p) ≡ false → Malformed ≡ read_text w f
-    text_bad g = frame_bad Absent Malformed (Value (filled f)) w f (every is_text f && not (eqb (get_or f 0 0) 32)) (is_blank f) long refl (not_all (is_blank f) refl) (sym tests ∙ g)
+    bad : good ≡ false → Malformed ≡ read_text w f
+    bad is = frame_bad Absent Malformed (Value (filled f)) w f good (is_blank f) long refl (not_all (is_blank f) refl) is
 
-pub starts_empty : (f : List ℕ) (b : ℕ) → length f ≡ 0 → eqb b 0 ≡ eqb (get_or f 0 0) b
-starts_empty [] b e = go (eqb b 0) refl
-  where
-    go : (t : Bool) → eqb b 0 ≡ t → t ≡ eqb 0 b
-    go true h = rw (eqb-true b 0 h)
-    go false h = sym (ne_eqb 0 b (λ q. let z : ◌≡◌ {A = ℕ} 0 1 = cc (rw (eq-eqb b 0 (sym q)) at h) in omega arith))
-starts_empty (x ∷ f) b e = absurd (omega arith)
+    pub text_no_text : every is_text (take n f) ≡ false → Malformed ≡ read_text w f
+    text_no_text t = bad (rw (← front_text f, ← en.0, t))
 
--- ---- has_dot
-module _ (x : ℕ) (f : List ℕ) (i : ℕ) (r : Bool) (known : contains x (drop i f) ≡ r) where
-  pub dot_here : i < length f → get_or f i 0 ≡ x → true ≡ r
-  unfolding contains
-  dot_here h e = rw (step f i h, eq-eqb (get_or f i 0) x e) at known
-
-  pub dot_on : i < length f → (get_or f i 0 ≡ x → ⊥) → contains x (drop (i + 1) f) ≡ r
-  unfolding contains
-  dot_on h n = rw (step f i h, ne_eqb (get_or f i 0) x n) at known
-
-  pub dot_none : length f ≤ i → false ≡ r
-  unfolding contains
-  dot_none h = rw (ended f i h) at known
+    pub text_space : get_or f 0 0 ≡ 32 → Malformed ≡ read_text w f
+    text_space p = bad (rw (eq-eqb (get_or f 0 0) 32 p, and-false (every is_text f)))
 
 -- ---- host_length
 contains_short : (x : ℕ) (s : List ℕ) (n : ℕ) → n < 2 → contains x (part s 1 (n - 1)) ≡ false
@@ -136,72 +121,70 @@ unfolding contains
 contains_short x s n h = let e : n - 1 - 1 ≡ 0 = omega arith in rw e
 
 module _ (h : List ℕ) (n : ℕ) (en : (n ≡ run is_plain h) × (n ≤ length h)) where
-  pub host_short : n < 2 → 0 ≡ cond (is_host h) (run is_plain h) 0
+  pub host_short : n < 2 → None ≡ cond (is_host h) (Some (run is_plain h)) None
   unfolding is_host
   host_short l = rw (← en.0, contains_short 46 h n l)
 
-  module _ (d s : Bool) (ed : d ≡ contains 46 (part h 1 (n - 1))) (es : s ≡ is_blank (take (length h - n) (drop n h))) where
-    is_host_lem : (t : Bool) → (d && s) ≡ t → is_host h ≡ t
-    unfolding is_host
-    is_host_lem t g =
-        let rest : take (length h - n) (drop n h) ≡ drop n h = take_all (length h - n) (drop n h) (rw length-drop (omega arith)) in
-        rw (← en.0, ← ed, ← rest, ← es) g
+  pub host_no_dot : (d : Bool) → d ≡ list_any (λ b. eqb b 46) (part h 1 (n - 1)) → d ≡ false → None ≡ cond (is_host h) (Some (run is_plain h)) None
+  unfolding is_host
+  host_no_dot d ed t = rw (← en.0, ← contains_any 46 (part h 1 (n - 1)), ← ed, t)
 
-    pub host_good : (d && s) ≡ true → n ≡ cond (is_host h) (run is_plain h) 0
-    host_good g = rw (is_host_lem true g) en.0
+  pub host_is : (d s : Bool) (o : Option ℕ) → d ≡ list_any (λ b. eqb b 46) (part h 1 (n - 1)) → d ≡ true → s ≡ is_blank (take (length h - n) (drop n h)) → o ≡ then_some s n
+      → (o ≡ cond (is_host h) (Some (run is_plain h)) None) × IfSome o (λ k. k ≤ length h)
+  unfolding is_host
+  host_is d s o ed t es eo =
+      let rest : take (length h - n) (drop n h) ≡ drop n h = take_all (length h - n) (drop n h) (rw length-drop (omega arith)) in
+      (eo ∙ rw (← en.0, ← contains_any 46 (part h 1 (n - 1)), ← ed, t, ← rest, ← es) (told s), rw eo (within s))
+    where
+      told : (s : Bool) → then_some s n ≡ cond s (Some n) None
+      told true = refl
+      told false = refl
 
-    pub host_bad : (d && s) ≡ false → 0 ≡ cond (is_host h) (run is_plain h) 0
-    host_bad g = rw (is_host_lem false g)
+      within : (s : Bool) → IfSome (then_some s n) (λ k. k ≤ length h)
+      within true = en.1
+      within false = tt
 
 -- ---- read_mail
-host_some : (h : List ℕ) → is_host h ≡ true → 2 ≤ run is_plain h
-unfolding is_host
-host_some h e = go (leb 2 (run is_plain h)) refl
-  where
-    go : (t : Bool) → leb 2 (run is_plain h) ≡ t → 2 ≤ run is_plain h
-    go true g = leb-true 2 (run is_plain h) g
-    go false g = absurd (let z : ◌≡◌ {A = ℕ} 0 1 = cc (rw (contains_short 46 h (run is_plain h) (leb-false 2 (run is_plain h) g)) at e) in omega arith)
-
-module _ (f : List ℕ) (b : Bool) (a : ℕ) (long : length f ≡ 50) (eb : b ≡ is_blank f) (nb : b ≡ false) (ea : (a ≡ run is_plain f) × (a ≤ length f)) where
-  bad_by : is_mail f ≡ false → Malformed ≡ read_mail f
-  bad_by g = frame_bad Absent Malformed (Value (mail_end f)) 50 f (is_mail f) b long eb nb g
-
-  pub mail_no_local : a ≡ 0 → Malformed ≡ read_mail f
+module _ (f : List ℕ) (a : ℕ) (ea : (a ≡ run is_plain f) × (a ≤ length f)) where
+  pub mail_no_local : a ≡ 0 → None ≡ cond (is_mail f) (Some (mail_end f)) None
   unfolding is_mail
-  mail_no_local z = bad_by (rw (← ea.0, z))
+  mail_no_local z = rw (← ea.0, z)
 
-  pub mail_full : a ≡ 50 → Malformed ≡ read_mail f
+  pub mail_no_at : (get_or f a 0 ≡ 64 → ⊥) → None ≡ cond (is_mail f) (Some (mail_end f)) None
   unfolding is_mail
-  mail_full z = bad_by (rw (← ea.0, z, get_or-eq_default f 0 {n = 50} (omega arith)))
+  mail_no_at n = rw (← ea.0, ne_eqb (get_or f a 0) 64 n, and-false (ltb 0 a))
 
-  pub mail_no_at : not (eqb (get_or f a 0) 64) ≡ true → Malformed ≡ read_mail f
-  unfolding is_mail
-  mail_no_at n = bad_by (rw (← ea.0, not-true (eqb (get_or f a 0) 64) n, and-false))
+  pub mail_full : a ≡ length f → None ≡ cond (is_mail f) (Some (mail_end f)) None
+  mail_full e =
+      let past : get_or f a 0 ≡ 0 = get_or-eq_default f 0 {n = a} (omega arith) in
+      mail_no_at (λ h. omega arith)
 
-  module _ (n : ℕ) (some : a ≡ 0 → ⊥) (at : not (eqb (get_or f a 0) 64) ≡ false)
-      (en : (n ≡ cond (is_host (take (length f - (a + 1)) (drop (a + 1) f))) (run is_plain (take (length f - (a + 1)) (drop (a + 1) f))) 0) × (n ≤ length (take (length f - (a + 1)) (drop (a + 1) f)))) where
-    behind : take (length f - (a + 1)) (drop (a + 1) f) ≡ behind_at f
-    behind = take_all (length f - (a + 1)) (drop (a + 1) f) (rw length-drop (omega arith)) ∙ rw ea.0
-
-    host : n ≡ cond (is_host (behind_at f)) (run is_plain (behind_at f)) 0
-    host = rw behind at en.0
-
+  module _ (some : a ≡ 0 → ⊥) (at : get_or f a 0 ≡ 64) where
     is_mail_lem : is_mail f ≡ is_host (behind_at f)
     unfolding is_mail
-    is_mail_lem = rw (ap (λ (k : ℕ). ltb 0 k) (sym ea.0), lt-ltb 0 a (omega arith), ap (λ (k : ℕ). eqb (get_or f k 0) 64) (sym ea.0), not-false (eqb (get_or f a 0) 64) at)
+    is_mail_lem = rw (← ea.0, lt-ltb 0 a (omega arith), eq-eqb (get_or f a 0) 64 at)
 
-    pub mail_no_host : n ≡ 0 → Malformed ≡ read_mail f
-    mail_no_host z = bad_by (is_mail_lem ∙ go (is_host (behind_at f)) refl)
-      where
-        go : (t : Bool) → is_host (behind_at f) ≡ t → t ≡ false
-        go true e = absurd (omega (arith, host_some (behind_at f) e, rw e at host))
-        go false e = refl
+    -- what stands behind the "@", as the code cuts it
+    abbrev back : List ℕ
+    back = take (length f - (a + 1)) (drop (a + 1) f)
 
-    pub mail_value : (n ≡ 0 → ⊥) → Value (a + 1 + n) ≡ read_mail f
-    mail_value m = go (is_host (behind_at f)) refl
-      where
-        go : (t : Bool) → is_host (behind_at f) ≡ t → Value (a + 1 + n) ≡ read_mail f
-        go true e =
-            let whole : a + 1 + n ≡ mail_end f = rw (ea.0, host, e) in
-            rw whole (frame_good Absent Malformed (Value (mail_end f)) 50 f (is_mail f) b long eb nb (is_mail_lem ∙ e))
-        go false e = absurd (m (host ∙ rw e))
+    back_is : back ≡ behind_at f
+    back_is = take_all (length f - (a + 1)) (drop (a + 1) f) (rw length-drop (omega arith)) ∙ rw ea.0
+
+    module _ (o : Option ℕ) (eo : o ≡ cond (is_host back) (Some (run is_plain back)) None) where
+      found : o ≡ cond (is_host (behind_at f)) (Some (run is_plain (behind_at f))) None
+      found = rw back_is at eo
+
+      pub mail_no_host : o ≡ None → None ≡ cond (is_mail f) (Some (mail_end f)) None
+      mail_no_host n = rw is_mail_lem (go (is_host (behind_at f)) (sym n ∙ found))
+        where
+          go : (t : Bool) → None ≡ cond t (Some (run is_plain (behind_at f))) None → None ≡ cond t (Some (mail_end f)) None
+          go true e = cc
+          go false e = refl
+
+      pub mail_is : (n : ℕ) → o ≡ Some n → Some (a + 1 + n) ≡ cond (is_mail f) (Some (mail_end f)) None
+      mail_is n e = rw is_mail_lem (go (is_host (behind_at f)) (sym e ∙ found))
+        where
+          go : (t : Bool) → Some n ≡ cond t (Some (run is_plain (behind_at f))) None → Some (a + 1 + n) ≡ cond t (Some (mail_end f)) None
+          go true e = rw ea.0 (ap (λ (o : Option ℕ). Some (run is_plain f + 1 + unwrap_or o 0)) e)
+          go false e = cc

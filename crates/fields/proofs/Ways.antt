@@ -1,97 +1,24 @@
--- The tests of the simple readings, from what the callees gave; dates and times.
+-- Dates and times: each way out, from what the callees gave.
 -- Assumes nothing.
 use Prim.Native.Nat.{ℕ, ◌+◌, ◌*◌, ◌≤◌, ◌<◌}
-use mathlib.Core.Path.{◌≡◌, refl, sym, ◌∙◌}
+use mathlib.Core.Path.{◌≡◌, sym, ◌∙◌}
 use mathlib.Core.Bool.{Bool, true, false, cond, not, ◌&&◌, ◌||◌, and_assoc, and-true}
 use mathlib.Core.List.{List}
+use Rattle.std.specs.Prelude.{Ok, Err}
 use native.Mathlib.Omega.{arith}
 use borrow.Author.Tests.{eq-eqb, ne_eqb, leb-true, le-leb, lt-leb, not-true, not-false}
 use mir.Syntax.{w64}
 use mir.Val.{Fits}
-use lib.Dec.{eqb, leb, ltb}
+use lib.Dec.{eqb, leb}
 use lib.ListN.{length, get_or}
-use Rattle.text.specs.Bytes.{is_digit, is_capital, every, all_digits, is_blank}
+use Rattle.text.specs.Bytes.{is_digit, all_digits}
 use Rattle.text.specs.Lists.{part}
-use Rattle.text.specs.Numbers.{number_of, number_of_first}
+use Rattle.text.specs.Numbers.{number_of_first}
 use Rattle.text.proofs.Booleans.{both}
 use Rattle.text.proofs.Lists.{spelled}
-use Rattle.text.proofs.Numbers.{few_digits, few}
-use Rattle.ident.specs.declared.Parts.{Parts}
-use Rattle.ident.specs.declared.Reading.{Reading}
-use Rattle.ident.specs.declared.Reading.TheVariants as Ident
-use Rattle.ident.specs.Identifier.{right_id}
-use Rattle.ident.specs.Calls.{parts_of, not_right, Read}
-use Rattle.fields.specs.declared.dates.DateReading.TheVariants as Date
-use Rattle.fields.specs.declared.dates.TimeReading.TheVariants as Time
-use Rattle.fields.specs.declared.numbers.NumberReading.TheVariants as Number
-use Rattle.fields.specs.declared.others.MainReading.TheVariants as Main
+use Rattle.text.proofs.Numbers.{few}
+use Rattle.fields.specs.Readings.{no_form}
 use Rattle.fields.specs.Dates.{is_leap, days_in, real_date, year_of, month_of, day_of, read_date, hours_of, minutes_of, seconds_of, has_time_form, is_time, read_time}
-use Rattle.fields.specs.Numbers.{read_digits, is_telephone, read_telephone, read_count}
-use Rattle.fields.specs.Others.{is_country, read_main}
-use Rattle.fields.proofs.Frames.{frame_good, frame_bad}
-
--- ---- numbers
-pub digits_value : (f : List ℕ) (b d : Bool) (n : ℕ) → length f ≤ 16 → b ≡ is_blank f → b ≡ false → d ≡ all_digits f → d ≡ true
-    → n ≡ number_of_first 16 f → Number.Value n ≡ read_digits (length f) f
-digits_value f b d n l eb nb ed yd en =
-    rw (en, few_digits 16 f l) (frame_good Number.Absent Number.Malformed (Number.Value (number_of f)) (length f) f (all_digits f) b refl eb nb (sym ed ∙ yd))
-
-pub digits_bad : (f : List ℕ) (b d : Bool) → b ≡ is_blank f → b ≡ false → d ≡ all_digits f → d ≡ false → Number.Malformed ≡ read_digits (length f) f
-digits_bad f b d eb nb ed nd = frame_bad Number.Absent Number.Malformed (Number.Value (number_of f)) (length f) f (all_digits f) b refl eb nb (sym ed ∙ nd)
-
-pub at_width : (w : ℕ) (f : List ℕ) (r : _) → length f ≡ w → r ≡ read_digits (length f) f → r ≡ read_digits w f
-at_width w f r e h = rw (← e) h
-
-module _ (f : List ℕ) (b d s : Bool) (n : ℕ) (long : length f ≡ 20) (eb : b ≡ is_blank f) (nb : b ≡ false) (ed : d ≡ all_digits (part f 1 13)) (es : s ≡ is_blank (part f 13 20)) where
-  pub telephone_value : (eqb (get_or f 0 0) 43 && d && s) ≡ true → n ≡ number_of_first 16 (part f 1 13) → Number.Value n ≡ read_telephone f
-  telephone_value g en =
-      rw (en, few f 1 13 (omega arith))
-      (frame_good Number.Absent Number.Malformed (Number.Value (number_of (part f 1 13))) 20 f (is_telephone f) b long eb nb (rw (← ed, ← es) g))
-
-  pub telephone_bad : (eqb (get_or f 0 0) 43 && d && s) ≡ false → Number.Malformed ≡ read_telephone f
-  telephone_bad g = frame_bad Number.Absent Number.Malformed (Number.Value (number_of (part f 1 13))) 20 f (is_telephone f) b long eb nb (rw (← ed, ← es) g)
-
-module _ (f : List ℕ) (b d : Bool) (n : ℕ) (long : length f ≡ 2) (eb : b ≡ is_blank f) (nb : b ≡ false) (ed : d ≡ all_digits f) (en : n ≡ number_of_first 16 f) where
-  whole : n ≡ number_of f
-  whole = en ∙ few_digits 16 f (omega arith)
-
-  pub count_value : (d && ltb 0 n) ≡ true → Number.Value n ≡ read_count f
-  count_value g =
-      rw whole (frame_good Number.Absent Number.Malformed (Number.Value (number_of f)) 2 f (all_digits f && ltb 0 (number_of f)) b long eb nb (rw (← ed, ← whole) g))
-
-  pub count_bad : (d && ltb 0 n) ≡ false → Number.Malformed ≡ read_count f
-  count_bad g = frame_bad Number.Absent Number.Malformed (Number.Value (number_of f)) 2 f (all_digits f && ltb 0 (number_of f)) b long eb nb (rw (← ed, ← whole) g)
-
--- ---- country
-pub country_is : (a b : ℕ) (p q t : Bool) → p ≡ is_capital a → q ≡ is_capital b → (p && q && not (eqb a 67 && eqb b 90)) ≡ t → is_country a b ≡ t
-country_is a b p q t e g h = rw (← e, ← g) h
-
--- ---- main consignment
-module _ (f : List ℕ) (b : Bool) (r : Reading) (long : length f ≡ 13) (eb : b ≡ is_blank f) (nb : b ≡ false) (er : Read f r) where
-  right_by : (t : Bool) (p : Parts) → right_id f ≡ t → r ≡ Ident.Right p → (right_id f ≡ true) × (parts_of f ≡ p)
-  right_by true p et e = (et, by (parts_of f) p (rw (er, et) at e))
-    where
-      by : (x y : Parts) → Ident.Right x ≡ Ident.Right y → x ≡ y
-      by x y h = cc
-  right_by false p et e = absurd (no (rw (er, et) at e))
-    where
-      no : Ident.Refused not_right ≡ Ident.Right p → ⊥
-      no h = let z : ◌≡◌ {A = ℕ} 0 1 = cc in omega arith
-
-  pub main_value : (p : Parts) → r ≡ Ident.Right p → Main.Value p ≡ read_main f
-  main_value p e =
-      let both = right_by (right_id f) p refl e in
-      rw (← both.1) (frame_good Main.Absent Main.Malformed (Main.Value (parts_of f)) 13 f (right_id f) b long eb nb both.0)
-
-  wrong_by : (t : Bool) (a : _) → right_id f ≡ t → r ≡ Ident.Refused a → right_id f ≡ false
-  wrong_by false a et e = et
-  wrong_by true a et e = absurd (no (rw (er, et) at e))
-    where
-      no : Ident.Right (parts_of f) ≡ Ident.Refused a → ⊥
-      no h = let z : ◌≡◌ {A = ℕ} 0 1 = cc in omega arith
-
-  pub main_bad : (a : _) → r ≡ Ident.Refused a → Main.Malformed ≡ read_main f
-  main_bad a e = frame_bad Main.Absent Main.Malformed (Main.Value (parts_of f)) 13 f (right_id f) b long eb nb (wrong_by (right_id f) a refl e)
 
 -- ---- dates
 pub days_leap : (y m : ℕ) (b : Bool) → m ≡ 2 → b ≡ is_leap y → b ≡ true → 29 ≡ days_in y m
@@ -120,11 +47,11 @@ module _ (y m d : ℕ) where
   pub real_is : (k : ℕ) → 2000 ≤ y → y ≤ 2099 → k ≡ days_in y m → (leb 1 m && leb m 12 && leb 1 d && leb d k) ≡ real_date y m d
   real_is k l h e = rw (e, le-leb 2000 y l, le-leb y 2099 h)
 
-pub date_wide : (f : List ℕ) → (length f ≡ 8 → ⊥) → Date.Malformed ≡ read_date f
+pub date_wide : (f : List ℕ) → (length f ≡ 8 → ⊥) → Err no_form ≡ read_date f
 unfolding read_date
 date_wide f n = rw (ne_eqb (length f) 8 n)
 
-pub date_letters : (f : List ℕ) (a : Bool) → length f ≡ 8 → a ≡ all_digits f → not a ≡ true → Date.Malformed ≡ read_date f
+pub date_letters : (f : List ℕ) (a : Bool) → length f ≡ 8 → a ≡ all_digits f → not a ≡ true → Err no_form ≡ read_date f
 unfolding read_date
 date_letters f a long ea n = rw (eq-eqb (length f) 8 long, ← ea, not-true a n)
 
@@ -142,11 +69,11 @@ module _ (f : List ℕ) (y m d : ℕ) (a r : Bool) (long : length f ≡ 8) (ea :
   tests : (t : Bool) → r ≡ t → (all_digits f && real_date (year_of f) (month_of f) (day_of f)) ≡ t
   tests t h = rw (← ea, not-false a ya, ← year, ← month, ← day, ← er) h
 
-  pub date_value : r ≡ true → Date.Value (y * 10000 + m * 100 + d) ≡ read_date f
+  pub date_value : r ≡ true → Ok (y * 10000 + m * 100 + d) ≡ read_date f
   unfolding read_date
   date_value h = rw (eq-eqb (length f) 8 long, tests true h, year, month, day)
 
-  pub date_bad : r ≡ false → Date.Malformed ≡ read_date f
+  pub date_bad : r ≡ false → Err no_form ≡ read_date f
   unfolding read_date
   date_bad h = rw (eq-eqb (length f) 8 long, tests false h)
 
@@ -186,15 +113,14 @@ module _ (y m d : ℕ) (r : Bool) (er : r ≡ real_date y m d) (good : r ≡ tru
 -- ---- times
 pub time_form : (f : List ℕ) (a b c d e g : Bool) → length f ≡ 8 → a ≡ is_digit (get_or f 0 0) → b ≡ is_digit (get_or f 1 0) → c ≡ is_digit (get_or f 3 0) → d ≡ is_digit (get_or f 4 0)
     → e ≡ is_digit (get_or f 6 0) → g ≡ is_digit (get_or f 7 0) → (a && b && eqb (get_or f 2 0) 58 && c && d && eqb (get_or f 5 0) 58 && e && g) ≡ has_time_form f
-unfolding every
 time_form f a b c d e g long ea eb ec ed ee eg =
     rw (ea, eb, ec, ed, ee, eg, spelled 8 f long) (simp (and_assoc, and-true))
 
-pub time_wide : (f : List ℕ) → (length f ≡ 8 → ⊥) → Time.Malformed ≡ read_time f
+pub time_wide : (f : List ℕ) → (length f ≡ 8 → ⊥) → Err no_form ≡ read_time f
 unfolding read_time
 time_wide f n = rw (ne_eqb (length f) 8 n)
 
-pub time_shapeless : (f : List ℕ) (a : Bool) → length f ≡ 8 → a ≡ has_time_form f → not a ≡ true → Time.Malformed ≡ read_time f
+pub time_shapeless : (f : List ℕ) (a : Bool) → length f ≡ 8 → a ≡ has_time_form f → not a ≡ true → Err no_form ≡ read_time f
 unfolding read_time
 time_shapeless f a long ea n = rw (eq-eqb (length f) 8 long, ← ea, not-true a n)
 
@@ -212,11 +138,11 @@ module _ (f : List ℕ) (h m s : ℕ) (a : Bool) (long : length f ≡ 8) (ea : a
   timely : (t : Bool) → (leb h 23 && leb m 59 && leb s 59) ≡ t → is_time f ≡ t
   timely t g = rw (← ea, not-false a ya, ← hours, ← minutes, ← seconds) g
 
-  pub time_value : (leb h 23 && leb m 59 && leb s 59) ≡ true → Time.Value (h * 3600 + m * 60 + s) ≡ read_time f
+  pub time_value : (leb h 23 && leb m 59 && leb s 59) ≡ true → Ok (h * 3600 + m * 60 + s) ≡ read_time f
   unfolding read_time
   time_value g = rw (eq-eqb (length f) 8 long, timely true g, hours, minutes, seconds)
 
-  pub time_bad : (leb h 23 && leb m 59 && leb s 59) ≡ false → Time.Malformed ≡ read_time f
+  pub time_bad : (leb h 23 && leb m 59 && leb s 59) ≡ false → Err no_form ≡ read_time f
   unfolding read_time
   time_bad g = rw (eq-eqb (length f) 8 long, timely false g)
 

@@ -9,16 +9,16 @@ use native.Mathlib.Omega.{arith}
 use borrow.Author.Tests.{ltb-true, ltb-false, lt-ltb, le-ltb, eqb-true, eqb-false, ne_eqb, not-true}
 use lib.Dec.{eqb, ltb}
 use lib.ListN.{length}
-use Rattle.text.specs.Bytes.{is_digit, every}
+use Rattle.text.specs.Bytes.{is_digit}
 use Rattle.text.specs.Numbers.{number_after, digits}
 use Rattle.text.proofs.Lists.{spelled}
 use Rattle.text.proofs.Numbers.{digit_bounds, is_digit_lem}
-use Rattle.fields.specs.declared.amounts.WeightReading.{WeightReading}
-use Rattle.fields.specs.declared.amounts.WeightReading.TheVariants as Weight
+use Rattle.fields.specs.declared.reading.Reading.TheVariants.{Absent, Value, Malformed}
+use Rattle.fields.specs.Readings.{WeightReading}
 use Rattle.fields.specs.Frame.{framed}
 use Rattle.fields.specs.Amounts.{is_weight, grams_in, grams, read_weight, weight_text}
 use Rattle.fields.specs.Calls.{has_weight_text, weight_bytes}
-use Rattle.fields.proofs.FrameLaws.{value_exactly, read_written}
+use Rattle.fields.proofs.FrameLaws.{reads_exactly, read_written}
 
 -- ---- the writing of a number is read back
 -- below 10 kg: a space, then the digits
@@ -28,7 +28,7 @@ module _ (v : ℕ) (small : v < 10000) where
   small_text = rw (lt-ltb v 10000 small)
 
   small_reads : read_weight (weight_text v) ≡ grams v
-  unfolding framed every number_after
+  unfolding framed number_after
   small_reads =
       let kilos : v / 1000 ≡ v / 10 / 10 / 10 = omega arith in
       let one : v / 1000 % 10 ≡ v / 1000 = omega arith in
@@ -49,7 +49,7 @@ module _ (v : ℕ) (large : 10000 ≤ v) (below : v < 100000) where
   large_text = rw (le-ltb v 10000 large)
 
   large_reads : read_weight (weight_text v) ≡ grams v
-  unfolding framed every number_after
+  unfolding framed number_after
   large_reads =
       let kilos : v / 1000 ≡ v / 10 / 10 / 10 = omega arith in
       let two : v / 1000 / 10 % 10 ≡ v / 1000 / 10 = omega arith in
@@ -84,7 +84,6 @@ record Form (a b c d e g : ℕ) : Type 0 where
   units : (48 ≤ g) × (g ≤ 57)
 
 form_is : (a b c d e g : ℕ) → is_weight (a ∷ b ∷ c ∷ d ∷ e ∷ g ∷ []) ≡ true → Form a b c d e g
-unfolding every
 form_is a b c d e g h =
     let p = (and-eq-true_iff ((eqb a 32 || is_digit a && not (eqb a 48)) && is_digit b && eqb c 46) (is_digit d && (is_digit e && (is_digit g && true)))).0 h in
     let q = (and-eq-true_iff ((eqb a 32 || is_digit a && not (eqb a 48)) && is_digit b) (eqb c 46)).0 p.0 in
@@ -138,39 +137,25 @@ good_is_written : (f : List ℕ) → length f ≡ 6 → is_weight f ≡ true →
 unfolding number_after
 good_is_written f long good = rw (spelled 6 f long) (good_six _ _ _ _ _ _ _ (form_is _ _ _ _ _ _ (rw (spelled 6 f long) at good)) (omega arith))
 
-no_absence : (v : ℕ) → Weight.Absent ≡ grams v → ⊥
-no_absence v e = let z : ◌≡◌ {A = ℕ} 0 1 = cc in omega arith
-
-no_malformed : (v : ℕ) → Weight.Malformed ≡ grams v → ⊥
-no_malformed v e = let z : ◌≡◌ {A = ℕ} 0 1 = cc in omega arith
-
-grams_of : (m n : ℕ) → grams m ≡ grams n → m ≡ n
-grams_of m n e = ap number e
-  where
-    number : WeightReading → ℕ
-    number Weight.Absent = 0
-    number (Weight.Value x) = x.0
-    number Weight.Malformed = 0
-
 -- a field that reads as a number is the writing of that number
 read_is_written : (f : List ℕ) (v : ℕ) → read_weight f ≡ grams v → (v < 100000) × (f ≡ weight_text v)
 read_is_written f v r =
-    let p = (value_exactly Weight.Absent Weight.Malformed 6 f (is_weight f) (grams (grams_in f)) (grams v) (no_absence v) (no_malformed v)).0 r in
-    rw (grams_of (grams_in f) v p.1) at (good_is_written f p.0.long p.0.fine)
+    let p = (reads_exactly 6 f (is_weight f) (record { 0 = grams_in f }) (record { 0 = v })).0 r in
+    rw (ap (λ n. n.0) p.1) at (good_is_written f p.0.long p.0.fine)
 
 -- each number below 100000 has exactly one writing, and no other number has one
 pub weight_exactly : (f : List ℕ) (v : ℕ) → (read_weight f ≡ grams v) ↔ ((v < 100000) × (f ≡ weight_text v))
 weight_exactly f v = (read_is_written f v, λ p. ap read_weight p.1 ∙ weight_written_read v p.0)
 
 -- ---- a field that is not malformed, read and written: the field again, blank where the weight is absent
-pub weight_read_written : (f : List ℕ) → (read_weight f ≡ Weight.Malformed → ⊥) → weight_bytes (read_weight f) ≡ f
+pub weight_read_written : (f : List ℕ) → (read_weight f ≡ Malformed → ⊥) → weight_bytes (read_weight f) ≡ f
 unfolding weight_bytes
 weight_read_written f good =
-    read_written Weight.Absent Weight.Malformed 6 f (is_weight f) (grams (grams_in f)) weight_bytes refl (λ p. sym (good_is_written f p.long p.fine).1) good
+    read_written Absent Malformed 6 f (is_weight f) (grams (grams_in f)) weight_bytes refl (λ p. sym (good_is_written f p.long p.fine).1) good
 
 -- ---- and a reading that has a writing, written and read: the reading again, absent where it was absent
 pub weight_reading_back : (m : WeightReading) → has_weight_text m ≡ true → read_weight (weight_bytes m) ≡ m
-unfolding has_weight_text weight_bytes framed every
-weight_reading_back Weight.Absent e = refl
-weight_reading_back (Weight.Value v) e = weight_written_read v.0 (ltb-true v.0 100000 e)
-weight_reading_back Weight.Malformed e = cc
+unfolding has_weight_text weight_bytes framed
+weight_reading_back Absent e = refl
+weight_reading_back (Value v) e = weight_written_read v.0 (ltb-true v.0 100000 e)
+weight_reading_back Malformed e = cc

@@ -16,7 +16,7 @@ use Rattle.text.specs.Numbers.{digits, decimal, decimal_places_up_to}
 use Rattle.text.proofs.Booleans.{clash, both}
 use Rattle.text.proofs.Lists.{same_exactly}
 use Rattle.fields.specs.declared.services.Services.{Services}
-use Rattle.fields.specs.declared.services.ServicesReading.TheVariants.{Absent, Value, Malformed}
+use Rattle.fields.specs.declared.reading.Reading.TheVariants.{Absent, Value, Malformed}
 use Rattle.fields.specs.Codes.{Code, numbers_from, numbers, lettered, sizes, codes, number_for, text_for, has_number, has_text, is_code, told_apart}
 use Rattle.fields.specs.Services.{in_front, words, numbers_in, has_code, no_services, with_code, added, read_by, read_services, malformed_services, services_in, how_many, several_sizes}
 use Rattle.fields.specs.ServiceTexts.{no_letters, Writes, WritesNumbers}
@@ -75,7 +75,7 @@ all_of test [] = true
 all_of test (w ∷ ws) = test w && all_of test ws
 
 words_bytes : (test : ℕ → Bool) (f : List ℕ) → every test f ≡ true → all_of (every test) (words f) ≡ true
-unfolding words every all_of
+unfolding words all_of
 words_bytes test [] h = refl
 words_bytes test (b ∷ f) h = let p = both (test b) (every test f) h in go (is_blank (b ∷ f)) (eqb b 43) (words f) (words_bytes test f p.1) p.0
   where
@@ -107,7 +107,7 @@ same_numbers table more (w ∷ ws) a h =
     rw (more_past table more w (no_text more w a p.0), same_numbers table more ws a p.1)
 
 all_lettered_lem : all_lettered (lettered ++ sizes) ≡ true
-unfolding all_lettered every
+unfolding all_lettered
 all_lettered_lem = refl
 
 -- ---- the codes with letters, behind the numbers
@@ -202,17 +202,15 @@ number_is n = numbers_listed 1 99 n ∙ ap (λ (t : Bool). leb 1 n && t) (go (le
     go false e = let l = leb-false n 99 e in le-ltb n 100 (omega arith)
 
 numbers_are : (ns : List ℕ) → every (has_number numbers) ns ≡ every (λ n. leb 1 n && leb n 99) ns
-unfolding every
 numbers_are [] = refl
 numbers_are (n ∷ ns) = rw (number_is n, numbers_are ns)
 
 texts_are : (ns : List ℕ) → every (has_number numbers) ns ≡ true → map (text_for numbers) ns ≡ map decimal ns
-unfolding every
 texts_are [] h = refl
 texts_are (n ∷ ns) h = let p = both (has_number numbers n) (every (has_number numbers) ns) h in rw (texts_listed 1 99 n p.0, texts_are ns p.1)
 
 numbers_told_apart : told_apart numbers ≡ true
-unfolding told_apart has_number has_text same_bytes every numbers_from digits decimal_places_up_to
+unfolding told_apart has_number has_text same_bytes numbers_from digits decimal_places_up_to
 numbers_told_apart = refl
 
 -- so by them the field reads as a set exactly if it did when codes were numbers only

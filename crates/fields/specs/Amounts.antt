@@ -1,15 +1,13 @@
 -- Fields 15 to 17: weight in whole grams, money in whole haléře; how each is read, and its one writing.
 -- Assumes nothing.
-use Rattle.std.specs.Prelude.{ℕ, ◌+◌, ◌-◌, ◌*◌, ◌/◌, Bool, true, false, cond, not, ◌&&◌, ◌||◌, ◌≡◌, refl, List, ◌∷◌, ◌++◌, get_or, replicate, eqb, leb, ltb}
+use Rattle.std.specs.Prelude.{ℕ, ◌+◌, ◌-◌, ◌*◌, ◌/◌, Bool, true, cond, not, ◌&&◌, ◌||◌, ◌≡◌, refl, List, ◌∷◌, ◌++◌, get_or, replicate, eqb, leb, ltb}
 use Rattle.text.specs.Bytes.{is_digit, all_digits, is_blank, run}
 use Rattle.text.specs.Lists.{part}
 use Rattle.text.specs.Numbers.{number_of, digits, decimal_places, decimal}
 use Rattle.layout.specs.Layout.{width_of}
 use Rattle.fields.specs.Frame.{framed}
-use Rattle.fields.specs.declared.amounts.WeightReading.{WeightReading}
-use Rattle.fields.specs.declared.amounts.WeightReading.TheVariants as Weight
-use Rattle.fields.specs.declared.amounts.MoneyReading.{MoneyReading}
-use Rattle.fields.specs.declared.amounts.MoneyReading.TheVariants as Money
+use Rattle.fields.specs.declared.reading.Reading.TheVariants.{Absent, Value, Malformed}
+use Rattle.fields.specs.Readings.{WeightReading, MoneyReading, malformed, absent}
 
 -- ---- 15: weight in kg, right-aligned: one or two digits, dot, three digits; no leading zero except a lone 0 before the dot
 abbrev pub is_weight : List ℕ → Bool
@@ -22,24 +20,22 @@ abbrev pub grams_in : List ℕ → ℕ
 grams_in f = number_of (part f 0 2) * 1000 + number_of (part f 3 6)
 
 abbrev pub grams : ℕ → WeightReading
-grams v = Weight.Value (record { 0 = v })
+grams v = Value (record { 0 = v })
 
 abbrev pub read_weight : List ℕ → WeightReading
-read_weight f = framed Weight.Absent Weight.Malformed (width_of 15) f (is_weight f) (grams (grams_in f))
+read_weight f = framed Absent Malformed (width_of 15) f (is_weight f) (grams (grams_in f))
 
 -- the one writing of so many grams
 unfoldable pub weight_text : ℕ → List ℕ
 weight_text v = cond (ltb v 10000) (32 ∷ digits 1 (v / 1000)) (digits 2 (v / 1000)) ++ 46 ∷ digits 3 v
 
 abbrev pub malformed_weight : WeightReading → Bool
-malformed_weight Weight.Absent = false
-malformed_weight (Weight.Value g) = false
-malformed_weight Weight.Malformed = true
+malformed_weight r = malformed r
 
 abbrev pub absent_or_zero_weight : WeightReading → Bool
-absent_or_zero_weight Weight.Absent = true
-absent_or_zero_weight (Weight.Value g) = eqb g.0 0
-absent_or_zero_weight Weight.Malformed = true
+absent_or_zero_weight Absent = true
+absent_or_zero_weight (Value g) = eqb g.0 0
+absent_or_zero_weight Malformed = true
 
 -- ---- 16 and 17: money in Kč, left-aligned: one to nine digits, dot, two digits; no leading zero except a lone 0 before the dot
 -- so many digits stand before the dot
@@ -56,10 +52,10 @@ abbrev pub hellers_in : List ℕ → ℕ
 hellers_in f = number_of (part f 0 (crown_digits f)) * 100 + number_of (part f (crown_digits f + 1) (crown_digits f + 3))
 
 abbrev pub hellers : ℕ → MoneyReading
-hellers v = Money.Value (record { 0 = v })
+hellers v = Value (record { 0 = v })
 
 abbrev pub read_money : List ℕ → MoneyReading
-read_money f = framed Money.Absent Money.Malformed (width_of 16) f (is_money f) (hellers (hellers_in f))
+read_money f = framed Absent Malformed (width_of 16) f (is_money f) (hellers (hellers_in f))
 
 -- the one writing of so many haléře
 unfoldable pub money_text : ℕ → List ℕ
@@ -69,16 +65,12 @@ pub price_as_wide_as_cash : width_of 17 ≡ width_of 16
 price_as_wide_as_cash = refl
 
 abbrev pub malformed_money : MoneyReading → Bool
-malformed_money Money.Absent = false
-malformed_money (Money.Value h) = false
-malformed_money Money.Malformed = true
+malformed_money r = malformed r
 
 abbrev pub absent_money : MoneyReading → Bool
-absent_money Money.Absent = true
-absent_money (Money.Value h) = false
-absent_money Money.Malformed = false
+absent_money r = absent r
 
 abbrev pub absent_or_zero_money : MoneyReading → Bool
-absent_or_zero_money Money.Absent = true
-absent_or_zero_money (Money.Value h) = eqb h.0 0
-absent_or_zero_money Money.Malformed = true
+absent_or_zero_money Absent = true
+absent_or_zero_money (Value h) = eqb h.0 0
+absent_or_zero_money Malformed = true

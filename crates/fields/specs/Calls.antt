@@ -1,16 +1,12 @@
 -- What the public calls promise that give more than a reading: the writers, and the sum of two amounts.
 -- Assumes nothing.
-use Rattle.std.specs.Prelude.{ℕ, ◌+◌, ◌^◌, Bool, true, false, cond, ◌&&◌, ◌≡◌, List, length, replicate, eqb, ltb}
+use Rattle.std.specs.Prelude.{ℕ, ◌+◌, ◌^◌, Bool, true, false, cond, ◌&&◌, ◌≡◌, List, length, replicate, eqb, ltb, Option, Some, None}
 use Rattle.text.specs.declared.Answer.{Answer}
 use Rattle.text.specs.Answers.{answer, accepted, wrong_length}
 use Rattle.layout.specs.Layout.{width_of}
 use Rattle.fields.specs.declared.amounts.Hellers.{Hellers}
-use Rattle.fields.specs.declared.amounts.Sum.{Sum}
-use Rattle.fields.specs.declared.amounts.Sum.TheVariants.{Total, TooLarge}
-use Rattle.fields.specs.declared.amounts.WeightReading.{WeightReading}
-use Rattle.fields.specs.declared.amounts.WeightReading.TheVariants as Weight
-use Rattle.fields.specs.declared.amounts.MoneyReading.{MoneyReading}
-use Rattle.fields.specs.declared.amounts.MoneyReading.TheVariants as Money
+use Rattle.fields.specs.declared.reading.Reading.TheVariants.{Absent, Value, Malformed}
+use Rattle.fields.specs.Readings.{WeightReading, MoneyReading}
 use Rattle.fields.specs.Amounts.{weight_text, money_text}
 
 -- ---- the writing of a reading: a number that has one, or blanks
@@ -22,24 +18,24 @@ abbrev pub weight_fits : ℕ → Bool
 weight_fits v = ltb v 100000
 
 unfoldable pub has_money_text : MoneyReading → Bool
-has_money_text Money.Absent = true
-has_money_text (Money.Value h) = money_fits h.0
-has_money_text Money.Malformed = false
+has_money_text Absent = true
+has_money_text (Value h) = money_fits h.0
+has_money_text Malformed = false
 
 unfoldable pub money_bytes : MoneyReading → List ℕ
-money_bytes Money.Absent = replicate (width_of 16) 32
-money_bytes (Money.Value h) = money_text h.0
-money_bytes Money.Malformed = replicate (width_of 16) 32
+money_bytes Absent = replicate (width_of 16) 32
+money_bytes (Value h) = money_text h.0
+money_bytes Malformed = replicate (width_of 16) 32
 
 unfoldable pub has_weight_text : WeightReading → Bool
-has_weight_text Weight.Absent = true
-has_weight_text (Weight.Value g) = weight_fits g.0
-has_weight_text Weight.Malformed = false
+has_weight_text Absent = true
+has_weight_text (Value g) = weight_fits g.0
+has_weight_text Malformed = false
 
 unfoldable pub weight_bytes : WeightReading → List ℕ
-weight_bytes Weight.Absent = replicate (width_of 15) 32
-weight_bytes (Weight.Value g) = weight_text g.0
-weight_bytes Weight.Malformed = replicate (width_of 15) 32
+weight_bytes Absent = replicate (width_of 15) 32
+weight_bytes (Value g) = weight_text g.0
+weight_bytes Malformed = replicate (width_of 15) 32
 
 -- 236 if the part hasn't the field's width, then 210 if the number has no writing there, both place 0 and the part unchanged
 pub record Written (width : ℕ) (has : Bool) (text before : List ℕ) (r : Answer) (after : List ℕ) : Type 0 where
@@ -53,5 +49,5 @@ abbrev pub WeightWritten : List ℕ → WeightReading → Answer → List ℕ �
 WeightWritten before m r after = Written (width_of 15) (has_weight_text m) (weight_bytes m) before r after
 
 -- ---- a sum takes only its own kind
-unfoldable pub sum_of_hellers : Hellers → Hellers → Sum
-sum_of_hellers a b = cond (ltb (a.0 + b.0) (2 ^ 64)) (Total (record { 0 = a.0 + b.0 })) TooLarge
+unfoldable pub sum_of_hellers : Hellers → Hellers → Option Hellers
+sum_of_hellers a b = cond (ltb (a.0 + b.0) (2 ^ 64)) (Some (record { 0 = a.0 + b.0 })) None

@@ -1,14 +1,11 @@
 -- Fields 2 and 3: a date and a time, which may not be blank.
 -- Assumes nothing.
-use Rattle.std.specs.Prelude.{ℕ, ◌+◌, ◌*◌, ◌%◌, Bool, true, false, cond, not, ◌&&◌, ◌||◌, List, length, get_or, eqb, leb}
+use Rattle.std.specs.Prelude.{ℕ, ◌+◌, ◌*◌, ◌%◌, Bool, cond, not, ◌&&◌, ◌||◌, List, length, get_or, eqb, leb, Ok, Err, is_err}
 use Rattle.text.specs.Bytes.{all_digits}
 use Rattle.text.specs.Lists.{part}
 use Rattle.text.specs.Numbers.{number_of}
 use Rattle.layout.specs.Layout.{width_of}
-use Rattle.fields.specs.declared.dates.DateReading.{DateReading}
-use Rattle.fields.specs.declared.dates.DateReading.TheVariants as Date
-use Rattle.fields.specs.declared.dates.TimeReading.{TimeReading}
-use Rattle.fields.specs.declared.dates.TimeReading.TheVariants as Time
+use Rattle.fields.specs.Readings.{DateReading, TimeReading, no_form}
 
 -- ---- 2: date ccyymmdd, a real Gregorian date in 2000 to 2099
 abbrev pub is_leap : ℕ → Bool
@@ -33,12 +30,11 @@ day_of f = number_of (part f 6 8)
 unfoldable pub read_date : List ℕ → DateReading
 read_date f =
     cond (eqb (length f) (width_of 2))
-    (cond (all_digits f && real_date (year_of f) (month_of f) (day_of f)) (Date.Value (year_of f * 10000 + month_of f * 100 + day_of f)) Date.Malformed)
-    Date.Malformed
+    (cond (all_digits f && real_date (year_of f) (month_of f) (day_of f)) (Ok (year_of f * 10000 + month_of f * 100 + day_of f)) (Err no_form))
+    (Err no_form)
 
 abbrev pub malformed_date : DateReading → Bool
-malformed_date (Date.Value v) = false
-malformed_date Date.Malformed = true
+malformed_date r = is_err r
 
 -- ---- 3: time hh:mm:ss, hours to 23, minutes and seconds to 59
 abbrev pub hours_of : List ℕ → ℕ
@@ -60,9 +56,8 @@ is_time f = has_time_form f && leb (hours_of f) 23 && leb (minutes_of f) 59 && l
 unfoldable pub read_time : List ℕ → TimeReading
 read_time f =
     cond (eqb (length f) (width_of 3))
-    (cond (is_time f) (Time.Value (hours_of f * 3600 + minutes_of f * 60 + seconds_of f)) Time.Malformed)
-    Time.Malformed
+    (cond (is_time f) (Ok (hours_of f * 3600 + minutes_of f * 60 + seconds_of f)) (Err no_form))
+    (Err no_form)
 
 abbrev pub malformed_time : TimeReading → Bool
-malformed_time (Time.Value v) = false
-malformed_time Time.Malformed = true
+malformed_time r = is_err r

@@ -1,21 +1,14 @@
 -- The paper's marked examples, in its order: one list, under the one claim `shown`, computed over the definitions.
 -- Assumes nothing.
-use Rattle.std.specs.Prelude.{ℕ, ◌-◌, ◌≡◌, refl, List, [], ◌∷◌, ◌++◌, Bool, true, false, not, ◌&&◌, eqb, length, replicate}
+use Rattle.std.specs.Prelude.{ℕ, ◌-◌, ◌≡◌, refl, List, [], ◌∷◌, ◌++◌, Bool, true, false, not, ◌&&◌, eqb, length, replicate, Ok, Err}
 use Prim.Native.String.{String}
-use Rattle.text.specs.Bytes.{every, run}
 use Rattle.text.specs.Lists.{same_bytes}
 use Rattle.text.specs.Numbers.{number_after, digits, decimal_places_up_to}
 use Rattle.text.specs.Texts.{bytes, all_hold}
 use Rattle.ident.specs.Identifier.{shape_of, weighted, sum_of, remainder, ends_right, right_id}
-use Rattle.fields.specs.declared.dates.DateReading.{DateReading}
-use Rattle.fields.specs.declared.dates.DateReading.TheVariants as Date
-use Rattle.fields.specs.declared.amounts.WeightReading.{WeightReading}
-use Rattle.fields.specs.declared.amounts.WeightReading.TheVariants as Weight
-use Rattle.fields.specs.declared.amounts.MoneyReading.{MoneyReading}
-use Rattle.fields.specs.declared.amounts.MoneyReading.TheVariants as Money
+use Rattle.fields.specs.declared.reading.Reading.TheVariants.{Absent, Value, Malformed}
+use Rattle.fields.specs.Readings.{DateReading, WeightReading, MoneyReading, ServicesReading}
 use Rattle.fields.specs.declared.services.Services.{Services}
-use Rattle.fields.specs.declared.services.ServicesReading.{ServicesReading}
-use Rattle.fields.specs.declared.services.ServicesReading.TheVariants as Reading
 use Rattle.fields.specs.Frame.{framed}
 use Rattle.fields.specs.Dates.{days_in, read_date, malformed_date}
 use Rattle.fields.specs.Amounts.{is_money, read_weight, malformed_weight, read_money, malformed_money}
@@ -38,24 +31,24 @@ in_field w t = bytes t ++ replicate (w - length (bytes t)) 32
 
 -- ---- what a reading is
 unfoldable pub is_hellers : ℕ → MoneyReading → Bool
-is_hellers v Money.Absent = false
-is_hellers v (Money.Value h) = eqb h.0 v
-is_hellers v Money.Malformed = false
+is_hellers v Absent = false
+is_hellers v (Value h) = eqb h.0 v
+is_hellers v Malformed = false
 
 unfoldable pub is_grams : ℕ → WeightReading → Bool
-is_grams v Weight.Absent = false
-is_grams v (Weight.Value g) = eqb g.0 v
-is_grams v Weight.Malformed = false
+is_grams v Absent = false
+is_grams v (Value g) = eqb g.0 v
+is_grams v Malformed = false
 
 -- the set of just these codes
 unfoldable pub is_set : Services → ServicesReading → Bool
-is_set t Reading.Absent = false
-is_set t (Reading.Value s) = eqb s.low t.low && eqb s.high t.high
-is_set t Reading.Malformed = false
+is_set t Absent = false
+is_set t (Value s) = eqb s.low t.low && eqb s.high t.high
+is_set t Malformed = false
 
 unfoldable pub is_date : ℕ → DateReading → Bool
-is_date v (Date.Value d) = eqb d v
-is_date v Date.Malformed = false
+is_date v (Ok d) = eqb d v
+is_date v (Err e) = false
 
 -- ---- the list
 unfoldable pub claims : List Bool
@@ -96,5 +89,5 @@ claims =
     ∷ []
 
 pub shown : all_hold claims ≡ true
-unfolding bytes all_hold every run number_after shape_of weighted ends_right right_id adds right wrong framed days_in read_date is_money same_bytes digits decimal_places_up_to numbers_from codes number_for words has_code with_code added read_by in_field is_hellers is_grams is_set is_date claims
+unfolding bytes all_hold number_after shape_of weighted ends_right right_id adds right wrong framed days_in read_date is_money same_bytes digits decimal_places_up_to numbers_from codes number_for words has_code with_code added read_by in_field is_hellers is_grams is_set is_date claims
 shown = refl

@@ -1,6 +1,8 @@
+pub mod Readings
 pub mod Frame
 pub mod Dates
 pub mod Texts
+pub mod WordTexts
 pub mod Numbers
 pub mod Others
 pub mod Postcodes

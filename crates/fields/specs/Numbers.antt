@@ -1,13 +1,13 @@
 -- Fields of digits alone: telephone, variable symbol, serial and pieces; and the digits of a postcode at home.
 -- Assumes nothing.
-use Rattle.std.specs.Prelude.{ℕ, Bool, true, false, ◌&&◌, ◌≡◌, refl, List, get_or, eqb, ltb}
+use Rattle.std.specs.Prelude.{ℕ, Bool, ◌&&◌, ◌≡◌, refl, List, get_or, eqb, ltb, unwrap_or}
 use Rattle.text.specs.Bytes.{all_digits, is_blank}
 use Rattle.text.specs.Lists.{part}
 use Rattle.text.specs.Numbers.{number_of}
 use Rattle.layout.specs.Layout.{width_of}
 use Rattle.fields.specs.Frame.{framed}
-use Rattle.fields.specs.declared.numbers.NumberReading.{NumberReading}
-use Rattle.fields.specs.declared.numbers.NumberReading.TheVariants.{Absent, Value, Malformed}
+use Rattle.fields.specs.declared.reading.Reading.TheVariants.{Absent, Value, Malformed}
+use Rattle.fields.specs.Readings.{NumberReading, malformed, absent, value_in}
 
 -- so many digits, or blank
 abbrev pub read_digits : ℕ → List ℕ → NumberReading
@@ -33,17 +33,11 @@ pieces_as_wide_as_serial = refl
 
 -- ---- what the rules ask of such a field
 abbrev pub malformed_number : NumberReading → Bool
-malformed_number Absent = false
-malformed_number (Value n) = false
-malformed_number Malformed = true
+malformed_number r = malformed r
 
 abbrev pub absent_number : NumberReading → Bool
-absent_number Absent = true
-absent_number (Value n) = false
-absent_number Malformed = false
+absent_number r = absent r
 
 -- the number that was read; 0 where there is none
 abbrev pub number_in : NumberReading → ℕ
-number_in Absent = 0
-number_in (Value n) = n
-number_in Malformed = 0
+number_in r = unwrap_or (value_in r) 0

@@ -1,11 +1,9 @@
 -- The scan of field 18 in one pass, a byte at a time, as the code does it. `Services` says what it means.
 -- Assumes nothing.
-use Rattle.std.specs.Prelude.{ℕ, ◌+◌, ◌*◌, Bool, true, cond, not, ◌&&◌, List, [], ◌∷◌, ◌++◌, eqb, leb, ltb}
+use Rattle.std.specs.Prelude.{ℕ, ◌+◌, ◌*◌, cond, not, ◌&&◌, List, [], ◌∷◌, ◌++◌, eqb, leb, ltb, Option, Some, None, option_map}
 use Rattle.text.specs.Bytes.{is_blank}
 use Rattle.fields.specs.declared.services.Scan.{Scan}
 use Rattle.fields.specs.declared.services.Services.{Services}
-use Rattle.fields.specs.declared.services.ServicesReading.{ServicesReading}
-use Rattle.fields.specs.declared.services.ServicesReading.TheVariants.{Absent, Value, Malformed}
 use Rattle.fields.specs.Codes.{Code, lettered, sizes, codes, is_code}
 use Rattle.fields.specs.Services.{has_code, with_code}
 
@@ -25,6 +23,10 @@ unfoldable pub number_at : List Code → ℕ → ℕ
 number_at [] w = 0
 number_at (c ∷ cs) w = cond (eqb (key_of c.text) w) c.number (number_at cs w)
 
+-- such a number, where there is one
+abbrev pub unless_0 : ℕ → Option ℕ
+unless_0 n = cond (eqb n 0) None (Some n)
+
 -- those whose texts have letters
 abbrev pub with_letters : List Code
 with_letters = lettered ++ sizes
@@ -37,23 +39,17 @@ codes_from w (b ∷ bs) =
     (cond (eqb b 43) (number_at codes w ∷ codes_from 0 bs) (codes_from (with_byte w b) bs))
 
 -- ---- the scan
-abbrev pub scan_of : Services → ℕ → Bool → Scan
-scan_of s w b = record { services = s; word = w; bad = b }
+abbrev pub scan_of : Services → ℕ → Scan
+scan_of s w = record { services = s; word = w }
 
-unfoldable pub added_one : Services → ℕ → ServicesReading
-added_one s c = cond (is_code c && not (has_code s c)) (Value (with_code s c)) Malformed
+-- the set with one code more; none where it is no code, or is there already
+unfoldable pub added_one : Services → ℕ → Option Services
+added_one s c = cond (is_code c && not (has_code s c)) (Some (with_code s c)) None
 
--- behind a "+": the code joins the others, or was no good
-abbrev pub joined_by : Scan → ServicesReading → Scan
-joined_by s (Value more) = scan_of more 0 s.bad
-joined_by s Absent = scan_of s.services 0 true
-joined_by s Malformed = scan_of s.services 0 true
+-- behind a "+" the code has joined the others, or was no good
+unfoldable pub behind_byte : Scan → ℕ → Option Scan
+behind_byte s b =
+    cond (eqb b 43) (option_map (λ t. scan_of t 0) (added_one s.services (number_at codes s.word))) (Some (scan_of s.services (with_byte s.word b)))
 
-unfoldable pub behind_plus : Scan → Scan
-behind_plus s = joined_by s (added_one s.services (number_at codes s.word))
-
-unfoldable pub behind_byte : Scan → ℕ → Scan
-behind_byte s b = cond (eqb b 43) (behind_plus s) (scan_of s.services (with_byte s.word b) s.bad)
-
-unfoldable pub finished : Scan → List ℕ → ServicesReading
-finished s rest = cond (is_blank rest && not s.bad) (added_one s.services (number_at codes s.word)) Malformed
+unfoldable pub finished : Scan → List ℕ → Option Services
+finished s rest = cond (is_blank rest) (added_one s.services (number_at codes s.word)) None

@@ -1,11 +1,11 @@
 -- Field 18: services, blank, or codes joined by "+", left-aligned, no code twice. `Codes` has the table of them.
 -- Assumes nothing.
-use Rattle.std.specs.Prelude.{ℕ, suc, ◌+◌, ◌-◌, ◌/◌, ◌%◌, ◌^◌, Bool, true, false, cond, not, ◌&&◌, List, [], ◌∷◌, map, length, eqb, ltb}
+use Rattle.std.specs.Prelude.{ℕ, suc, ◌+◌, ◌-◌, ◌/◌, ◌%◌, ◌^◌, Bool, cond, not, ◌&&◌, List, [], ◌∷◌, map, length, eqb, ltb, unwrap_or}
 use Rattle.text.specs.Bytes.{is_blank}
 use Rattle.layout.specs.Layout.{width_of}
 use Rattle.fields.specs.declared.services.Services.{Services}
-use Rattle.fields.specs.declared.services.ServicesReading.{ServicesReading}
-use Rattle.fields.specs.declared.services.ServicesReading.TheVariants.{Absent, Value, Malformed}
+use Rattle.fields.specs.declared.reading.Reading.TheVariants.{Absent, Value, Malformed}
+use Rattle.fields.specs.Readings.{ServicesReading, malformed, value_in}
 use Rattle.fields.specs.Codes.{Code, sizes, codes, numbers_of, number_for, is_code}
 
 -- ---- the words of a text, joined by "+": the spaces at its end are in none of them
@@ -49,15 +49,11 @@ read_services = read_by codes
 
 -- ---- what the rules ask of the field
 abbrev pub malformed_services : ServicesReading → Bool
-malformed_services Absent = false
-malformed_services (Value s) = false
-malformed_services Malformed = true
+malformed_services r = malformed r
 
 -- the services that were read; none where the field is blank
 abbrev pub services_in : ServicesReading → Services
-services_in Absent = no_services
-services_in (Value s) = s
-services_in Malformed = no_services
+services_in r = unwrap_or (value_in r) no_services
 
 -- how many of some numbers pass a test
 unfoldable pub how_many : (ℕ → Bool) → List ℕ → ℕ

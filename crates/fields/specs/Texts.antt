@@ -1,12 +1,12 @@
 -- Fields of CP852 text, and the e-mail. What stands for the text as data is its length.
 -- Assumes nothing.
-use Rattle.std.specs.Prelude.{ℕ, suc, ◌+◌, ◌-◌, Bool, true, false, cond, not, ◌&&◌, ◌||◌, List, [], ◌∷◌, get_or, drop, eqb, leb, ltb}
+use Rattle.std.specs.Prelude.{ℕ, suc, ◌+◌, ◌-◌, Bool, false, cond, not, ◌&&◌, ◌||◌, List, [], ◌∷◌, get_or, drop, eqb, leb, ltb}
 use Rattle.text.specs.Bytes.{every, is_blank, run}
 use Rattle.text.specs.Lists.{part}
 use Rattle.layout.specs.Layout.{width_of}
 use Rattle.fields.specs.Frame.{framed}
-use Rattle.fields.specs.declared.texts.TextReading.{TextReading}
-use Rattle.fields.specs.declared.texts.TextReading.TheVariants.{Absent, Value, Malformed}
+use Rattle.fields.specs.declared.reading.Reading.TheVariants.{Absent, Value, Malformed}
+use Rattle.fields.specs.Readings.{TextReading, malformed, absent}
 
 -- ---- 4, 7 to 11, 20, 26: bytes 20h-7Eh and 80h-FFh, the first not a space unless the field is blank
 abbrev pub is_text : ℕ → Bool
@@ -52,11 +52,7 @@ read_mail f = framed Absent Malformed (width_of 13) f (is_mail f) (Value (mail_e
 
 -- ---- what the rules ask of such a field
 abbrev pub malformed_text : TextReading → Bool
-malformed_text Absent = false
-malformed_text (Value n) = false
-malformed_text Malformed = true
+malformed_text r = malformed r
 
 abbrev pub absent_text : TextReading → Bool
-absent_text Absent = true
-absent_text (Value n) = false
-absent_text Malformed = false
+absent_text r = absent r

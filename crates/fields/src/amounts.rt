@@ -1,13 +1,15 @@
 // 15 to 17: weight and money.
 ghost use Rattle.std.specs.Prelude.{◌≡◌, true, cond, ◌+◌, ◌/◌, ◌≤◌, ◌<◌, length, set, ltb};
+ghost use Rattle.text.specs.Answers.{answered};
 ghost use Rattle.text.specs.Promises.{Gives};
 ghost use Rattle.text.specs.Lists.{overlay};
 ghost use Rattle.text.specs.Numbers.{digits};
-ghost use Rattle.fields.specs.Amounts.{is_weight, read_weight, malformed_weight, weight_text, crown_digits, is_money, hellers_in, read_money, malformed_money, absent_money, absent_or_zero_money, money_text};
+ghost use Rattle.fields.specs.Amounts.{is_weight, grams_in, read_weight, weight_text, crown_digits, is_money, hellers_in, read_money, absent_or_zero_money, money_text};
 ghost use Rattle.fields.specs.Calls.{MoneyWritten, WeightWritten, sum_of_hellers};
 
+use crate::reading::{Reading, framed};
 use layout::WIDTHS;
-use text::{ACCEPTED, Answer, WRONG_LENGTH};
+use text::Refusal;
 
 const WEIGHT_WIDTH: usize = WIDTHS[15 - 1];
 
@@ -15,93 +17,35 @@ const WEIGHT_WIDTH: usize = WIDTHS[15 - 1];
 const MONEY_WIDTH: usize = WIDTHS[16 - 1];
 
 // The number has no writing in the field.
-const NO_WRITING: Answer = Answer {
-    code: 210,
-    place: 0,
-};
+const NO_WRITING: Refusal = Refusal::Malformed(0);
 
-#[derive(Clone, Copy)]
+#[derive(Clone, Copy, Debug, PartialEq, Eq)]
 pub struct Grams(pub u64);
 
-#[derive(Clone, Copy)]
+#[derive(Clone, Copy, Debug, PartialEq, Eq, Default)]
 pub struct Hellers(pub u64);
 
-#[derive(Clone, Copy)]
-pub enum WeightReading {
-    Absent,
-    Value(Grams),
-    Malformed,
-}
+pub type WeightReading = Reading<Grams>;
 
-impl WeightReading {
-    pub fn is_malformed(self) -> bool
-        ensures { Gives (malformed_weight self) result }
-    {
-        match self {
-            WeightReading::Absent => false,
-            WeightReading::Value(_) => false,
-            WeightReading::Malformed => true,
-        }
-    }
-}
+pub type MoneyReading = Reading<Hellers>;
 
-#[derive(Clone, Copy)]
-pub enum MoneyReading {
-    Absent,
-    Value(Hellers),
-    Malformed,
-}
-
-impl MoneyReading {
-    pub fn is_malformed(self) -> bool
-        ensures { Gives (malformed_money self) result }
-    {
-        match self {
-            MoneyReading::Absent => false,
-            MoneyReading::Value(_) => false,
-            MoneyReading::Malformed => true,
-        }
-    }
-
-    pub fn is_absent(self) -> bool
-        ensures { Gives (absent_money self) result }
-    {
-        match self {
-            MoneyReading::Absent => true,
-            MoneyReading::Value(_) => false,
-            MoneyReading::Malformed => false,
-        }
-    }
-
+impl Reading<Hellers> {
     pub fn is_absent_or_zero(self) -> bool
         ensures { Gives (absent_or_zero_money self) result }
     {
         match self {
-            MoneyReading::Absent => true,
-            MoneyReading::Value(h) => h.0 == 0,
-            MoneyReading::Malformed => true,
+            Reading::Value(h) => h.0 == 0,
+            _ => true,
         }
     }
 }
 
-// What two amounts make together.
-#[derive(Clone, Copy)]
-pub enum Sum {
-    Total(Hellers),
-    TooLarge,
-}
-
 impl Hellers {
-    pub fn plus(self, other: Hellers) -> Sum
+    // What two amounts make together, unless it is too large.
+    pub fn plus(self, other: Hellers) -> Option<Hellers>
         ensures { Gives (sum_of_hellers self other) result }
     {
-        let a = self.0;
-        let b = other.0;
-        if a <= u64::MAX - b {
-            Sum::Total(Hellers(a + b))
-        } else {
-            Sum::TooLarge
-        }
+        self.0.checked_add(other.0).map(Hellers)
     }
 }
 
@@ -133,18 +77,19 @@ fn has_weight_form(f: &[u8]) -> bool
 pub fn read_weight(f: &[u8]) -> WeightReading
     ensures { Gives (read_weight f.now) result }
 {
-    if f.len() != WEIGHT_WIDTH {
-        return WeightReading::Malformed;
-    }
-    if text::blank(f) {
-        return WeightReading::Absent;
-    }
-    if has_weight_form(f) {
-        let kilos = text::number(&f[0..2]);
-        WeightReading::Value(Grams(kilos * 1000 + text::number(&f[3..6])))
-    } else {
-        WeightReading::Malformed
-    }
+    framed(
+        f,
+        WEIGHT_WIDTH,
+        |f| has_weight_form(f).then(|| Grams(grams_in(f))),
+    )
+}
+
+// The grams that a weight says: kilograms, a dot and grams.
+fn grams_in(f: &[u8]) -> u64
+    requires { (length f.now ≡ 6) × (is_weight f.now ≡ true) }
+    ensures { result ≡ grams_in f.now }
+{
+    text::number(&f[0..2]) * 1000 + text::number(&f[3..6])
 }
 
 // A dot behind so many digits, two digits and nothing but spaces; no leading zero but a lone one.
@@ -169,18 +114,10 @@ fn has_money_form(f: &[u8], crowns: usize) -> bool
 pub fn read_money(f: &[u8]) -> MoneyReading
     ensures { Gives (read_money f.now) result }
 {
-    if f.len() != MONEY_WIDTH {
-        return MoneyReading::Malformed;
-    }
-    if text::blank(f) {
-        return MoneyReading::Absent;
-    }
-    let crowns = text::leading_digits(f);
-    if has_money_form(f, crowns) {
-        MoneyReading::Value(Hellers(hellers_in(f, crowns)))
-    } else {
-        MoneyReading::Malformed
-    }
+    framed(f, MONEY_WIDTH, |f| {
+        let crowns = text::leading_digits(f);
+        has_money_form(f, crowns).then(|| Hellers(hellers_in(f, crowns)))
+    })
 }
 
 // The amount with so many digits before its dot.
@@ -224,26 +161,26 @@ fn put_weight(part: &mut [u8], v: u64)
     part[2] = b'.';
 }
 
-pub fn write_weight(part: &mut [u8], m: WeightReading) -> Answer
-    ensures { WeightWritten part.old m result part.new }
+pub fn write_weight(part: &mut [u8], m: WeightReading) -> Result<(), Refusal>
+    ensures { WeightWritten part.old m (answered result) part.new }
 {
     if part.len() != WEIGHT_WIDTH {
-        return WRONG_LENGTH;
+        return Err(Refusal::WrongLength);
     }
     match m {
-        WeightReading::Absent => {
-            text::fill(part, b' ');
-            ACCEPTED
+        Reading::Absent => {
+            part.fill(b' ');
+            Ok(())
         }
-        WeightReading::Value(g) => {
+        Reading::Value(g) => {
             let v = g.0;
             if v >= 100_000 {
-                return NO_WRITING;
+                return Err(NO_WRITING);
             }
             put_weight(part, v);
-            ACCEPTED
+            Ok(())
         }
-        WeightReading::Malformed => NO_WRITING,
+        Reading::Malformed => Err(NO_WRITING),
     }
 }
 
@@ -262,29 +199,29 @@ fn put_money(part: &mut [u8], v: u64)
     ensures { part.new ≡ money_text v }
 {
     let n = text::decimal_places(v / 100);
-    text::fill(part, b' ');
+    part.fill(b' ');
     put_crowns_and_hellers(part, n, v);
 }
 
-pub fn write_money(part: &mut [u8], m: MoneyReading) -> Answer
-    ensures { MoneyWritten part.old m result part.new }
+pub fn write_money(part: &mut [u8], m: MoneyReading) -> Result<(), Refusal>
+    ensures { MoneyWritten part.old m (answered result) part.new }
 {
     if part.len() != MONEY_WIDTH {
-        return WRONG_LENGTH;
+        return Err(Refusal::WrongLength);
     }
     match m {
-        MoneyReading::Absent => {
-            text::fill(part, b' ');
-            ACCEPTED
+        Reading::Absent => {
+            part.fill(b' ');
+            Ok(())
         }
-        MoneyReading::Value(h) => {
+        Reading::Value(h) => {
             let v = h.0;
             if v >= 100_000_000_000 {
-                return NO_WRITING;
+                return Err(NO_WRITING);
             }
             put_money(part, v);
-            ACCEPTED
+            Ok(())
         }
-        MoneyReading::Malformed => NO_WRITING,
+        Reading::Malformed => Err(NO_WRITING),
     }
 }

@@ -1,8 +1,9 @@
 // 2 and 3: date and time.
 ghost use Rattle.std.specs.Prelude.{◌≡◌, length};
 ghost use Rattle.text.specs.Promises.{Gives};
-ghost use Rattle.fields.specs.Dates.{is_leap, days_in, real_date, read_date, malformed_date, has_time_form, read_time, malformed_time};
+ghost use Rattle.fields.specs.Dates.{is_leap, days_in, real_date, read_date, has_time_form, read_time};
 
+use crate::reading::Malformed;
 use layout::WIDTHS;
 
 const DATE_WIDTH: usize = WIDTHS[2 - 1];
@@ -10,40 +11,10 @@ const DATE_WIDTH: usize = WIDTHS[2 - 1];
 const TIME_WIDTH: usize = WIDTHS[3 - 1];
 
 // A date as the number ccyymmdd.
-#[derive(Clone, Copy)]
-pub enum DateReading {
-    Value(u64),
-    Malformed,
-}
-
-impl DateReading {
-    pub fn is_malformed(self) -> bool
-        ensures { Gives (malformed_date self) result }
-    {
-        match self {
-            DateReading::Value(_) => false,
-            DateReading::Malformed => true,
-        }
-    }
-}
+pub type DateReading = Result<u64, Malformed>;
 
 // A time in seconds from midnight.
-#[derive(Clone, Copy)]
-pub enum TimeReading {
-    Value(u64),
-    Malformed,
-}
-
-impl TimeReading {
-    pub fn is_malformed(self) -> bool
-        ensures { Gives (malformed_time self) result }
-    {
-        match self {
-            TimeReading::Value(_) => false,
-            TimeReading::Malformed => true,
-        }
-    }
-}
+pub type TimeReading = Result<u64, Malformed>;
 
 fn is_leap(y: u64) -> bool
     ensures { result ≡ is_leap y }
@@ -82,18 +53,18 @@ pub fn read_date(f: &[u8]) -> DateReading
     ensures { Gives (read_date f.now) result }
 {
     if f.len() != DATE_WIDTH {
-        return DateReading::Malformed;
+        return Err(Malformed);
     }
     if !text::all_digits(f) {
-        return DateReading::Malformed;
+        return Err(Malformed);
     }
     let y = text::number(&f[0..4]);
     let m = text::number(&f[4..6]);
     let d = text::number(&f[6..8]);
     if real_date(y, m, d) {
-        DateReading::Value(y * 10000 + m * 100 + d)
+        Ok(y * 10000 + m * 100 + d)
     } else {
-        DateReading::Malformed
+        Err(Malformed)
     }
 }
 
@@ -116,18 +87,18 @@ pub fn read_time(f: &[u8]) -> TimeReading
     ensures { Gives (read_time f.now) result }
 {
     if f.len() != TIME_WIDTH {
-        return TimeReading::Malformed;
+        return Err(Malformed);
     }
     if !has_time_form(f) {
-        return TimeReading::Malformed;
+        return Err(Malformed);
     }
     let h = text::number(&f[0..2]);
     let m = text::number(&f[3..5]);
     let s = text::number(&f[6..8]);
     let good = (h <= 23) & (m <= 59) & (s <= 59);
     if good {
-        TimeReading::Value(h * 3600 + m * 60 + s)
+        Ok(h * 3600 + m * 60 + s)
     } else {
-        TimeReading::Malformed
+        Err(Malformed)
     }
 }

@@ -1,7 +1,8 @@
 // 6, 14, 19, 22, 25: country, blank fields, status, main consignment.
 ghost use Rattle.text.specs.Promises.{Gives};
-ghost use Rattle.fields.specs.Others.{read_country, read_empty, read_status, read_main, malformed_country, absent_country, malformed_empty, malformed_main, absent_main};
+ghost use Rattle.fields.specs.Others.{read_country, read_empty, read_status, read_main};
 
+use crate::reading::{Malformed, Reading, framed};
 use ident::Parts;
 use layout::WIDTHS;
 
@@ -11,106 +12,35 @@ const STATUS_WIDTH: usize = WIDTHS[19 - 1];
 
 const MAIN_WIDTH: usize = WIDTHS[22 - 1];
 
-#[derive(Clone, Copy)]
-pub enum CountryReading {
-    Absent,
-    Value(u8, u8),
-    Malformed,
-}
+// The two capitals of a country abroad.
+#[derive(Clone, Copy, Debug, PartialEq, Eq)]
+pub struct Country(pub u8, pub u8);
 
-impl CountryReading {
-    pub fn is_malformed(self) -> bool
-        ensures { Gives (malformed_country self) result }
-    {
-        match self {
-            CountryReading::Absent => false,
-            CountryReading::Value(_, _) => false,
-            CountryReading::Malformed => true,
-        }
-    }
+// Absent is domestic.
+pub type CountryReading = Reading<Country>;
 
-    // Domestic.
-    pub fn is_absent(self) -> bool
-        ensures { Gives (absent_country self) result }
-    {
-        match self {
-            CountryReading::Absent => true,
-            CountryReading::Value(_, _) => false,
-            CountryReading::Malformed => false,
-        }
-    }
-}
+pub type MainReading = Reading<Parts>;
 
-#[derive(Clone, Copy)]
-pub enum EmptyReading {
-    Absent,
-    Malformed,
-}
+// A field that has to be blank.
+pub type EmptyReading = Result<(), Malformed>;
 
-impl EmptyReading {
-    pub fn is_malformed(self) -> bool
-        ensures { Gives (malformed_empty self) result }
-    {
-        match self {
-            EmptyReading::Absent => false,
-            EmptyReading::Malformed => true,
-        }
-    }
-}
-
-#[derive(Clone, Copy)]
+#[derive(Clone, Copy, Debug, PartialEq, Eq)]
 pub enum StatusReading {
     Live,
     Cancelled,
     Malformed,
 }
 
-#[derive(Clone, Copy)]
-pub enum MainReading {
-    Absent,
-    Value(Parts),
-    Malformed,
-}
-
-impl MainReading {
-    pub fn is_malformed(self) -> bool
-        ensures { Gives (malformed_main self) result }
-    {
-        match self {
-            MainReading::Absent => false,
-            MainReading::Value(_) => false,
-            MainReading::Malformed => true,
-        }
-    }
-
-    pub fn is_absent(self) -> bool
-        ensures { Gives (absent_main self) result }
-    {
-        match self {
-            MainReading::Absent => true,
-            MainReading::Value(_) => false,
-            MainReading::Malformed => false,
-        }
-    }
-}
-
 pub fn read_country(f: &[u8]) -> CountryReading
     ensures { Gives (read_country f.now) result }
 {
-    if f.len() != COUNTRY_WIDTH {
-        return CountryReading::Malformed;
-    }
-    if text::blank(f) {
-        return CountryReading::Absent;
-    }
-    let a = f[0];
-    let b = f[1];
-    let good = text::is_capital(a) & text::is_capital(b) & !((a == b'C') & (b == b'Z'));
-    if good {
-        CountryReading::Value(a, b)
-    } else {
-        CountryReading::Malformed
-    }
+    framed(f, COUNTRY_WIDTH, |f| {
+        let country = Country(f[0], f[1]);
+        let good = text::is_capital(f[0])
+            & text::is_capital(f[1])
+            & (country != Country(b'C', b'Z'));
+        good.then_some(country)
+    })
 }
 
 // Reads a field of so many bytes that has to be blank.
@@ -118,12 +48,12 @@ pub fn read_empty(f: &[u8], width: usize) -> EmptyReading
     ensures { Gives (read_empty width f.now) result }
 {
     if f.len() != width {
-        return EmptyReading::Malformed;
+        return Err(Malformed);
     }
     if text::blank(f) {
-        EmptyReading::Absent
+        Ok(())
     } else {
-        EmptyReading::Malformed
+        Err(Malformed)
     }
 }
 
@@ -147,14 +77,5 @@ pub fn read_status(f: &[u8]) -> StatusReading
 pub fn read_main(f: &[u8]) -> MainReading
     ensures { Gives (read_main f.now) result }
 {
-    if f.len() != MAIN_WIDTH {
-        return MainReading::Malformed;
-    }
-    if text::blank(f) {
-        return MainReading::Absent;
-    }
-    match ident::read(f) {
-        ident::Reading::Right(parts) => MainReading::Value(parts),
-        ident::Reading::Refused(_) => MainReading::Malformed,
-    }
+    framed(f, MAIN_WIDTH, |f| ident::read(f).ok())
 }

@@ -1,10 +1,12 @@
 // 18: services.
-ghost use Rattle.std.specs.Prelude.{◌≡◌, true, false, ◌<◌};
+ghost use Rattle.std.specs.Prelude.{◌≡◌, true, false, ◌<◌, eqb, length, position, IfSome};
 ghost use Rattle.text.specs.Promises.{Gives};
 ghost use Rattle.fields.specs.Codes.{numbers, codes, is_code};
-ghost use Rattle.fields.specs.Services.{numbers_in, has_code, no_services, with_code, added, read_services, malformed_services, services_in, several_sizes};
-ghost use Rattle.fields.specs.Scans.{with_byte, number_at, with_letters, added_one, behind_plus, behind_byte, finished};
+ghost use Rattle.fields.specs.Services.{numbers_in, has_code, no_services, with_code, added, read_services, services_in, several_sizes};
+ghost use Rattle.fields.specs.Frame.{or_malformed};
+ghost use Rattle.fields.specs.Scans.{with_byte, number_at, unless_0, with_letters, added_one, behind_byte, finished};
 
+use crate::reading::{Reading, framed};
 use layout::WIDTHS;
 
 const SERVICES_WIDTH: usize = WIDTHS[18 - 1];
@@ -23,7 +25,8 @@ const SIZE_L: u64 = 107;
 
 const SIZE_XL: u64 = 108;
 
-// The texts of those with letters, each as a word of one byte or two: the next code is a row more.
+// The texts of those with letters, each as a word of one byte or two: the next code is a row more. A word is one number, so that it is compared
+// at once.
 const LETTERED: [u64; 9] = [
     b'1' as u64 * 256 + b'A' as u64,
     b'1' as u64 * 256 + b'B' as u64,
@@ -36,7 +39,7 @@ const LETTERED: [u64; 9] = [
     b'X' as u64 * 256 + b'L' as u64,
 ];
 
-// A word that no code has.
+// A word that no code has: longer ones stay this, so the scan needs no test of the length.
 const NO_WORD: u64 = 65536;
 
 // The word with one byte more.
@@ -45,94 +48,73 @@ fn with_byte(word: u64, b: u8) -> u64
     ensures { result ≡ with_byte word b }
 {
     if word < 256 {
-        word * 256 + b as u64
+        word * 256 + u64::from(b)
     } else {
         NO_WORD
     }
 }
 
-// The number that one digit or two write with no leading zero; 0 for other words.
-fn number_in(word: u64) -> u64
-    ensures { result ≡ number_at numbers word }
+// The number that one digit or two write with no leading zero.
+fn number_in(word: u64) -> Option<u64>
+    ensures { result ≡ unless_0 (number_at numbers word) }
 {
     let tens = word / 256;
     let ones = word % 256;
     let digit = (48 <= ones) & (ones <= 57);
     if !digit {
-        return 0;
+        return None;
     }
     if tens == 0 {
-        return ones - 48;
+        return (48 < ones).then_some(ones - 48);
     }
     let leading = (49 <= tens) & (tens <= 57);
     if leading {
-        (tens - 48) * 10 + (ones - 48)
+        Some((tens - 48) * 10 + (ones - 48))
     } else {
-        0
+        None
     }
 }
 
-// The number of the code with letters that a word is; 0 for other words.
-fn lettered_in(word: u64) -> u64
-    ensures { result ≡ number_at with_letters word }
+// Where a word stands in a table of them.
+fn place_in(table: &[u64], word: u64) -> Option<usize>
+    ensures place { result ≡ position (λ k. eqb k word) table.now }
+    ensures bound { IfSome result (λ i. i < length table.now) }
 {
-    let mut i: usize = 0;
-    while i < LETTERED.len() {
-        if LETTERED[i] == word {
-            return FIRST_LETTERED + i as u64;
-        }
-        i += 1;
-    }
-    0
+    table.iter().position(|known| *known == word)
 }
 
-// The number of the code that a word is; 0 for none.
-fn code_in(word: u64) -> u64
-    ensures { result ≡ number_at codes word }
+// The number of the code with letters that a word is.
+fn lettered_in(word: u64) -> Option<u64>
+    ensures { result ≡ unless_0 (number_at with_letters word) }
 {
-    let number = number_in(word);
-    if number > 0 {
-        return number;
-    }
-    lettered_in(word)
+    let i = place_in(&LETTERED, word)?;
+    Some(FIRST_LETTERED + i as u64)
+}
+
+// The number of the code that a word is.
+fn code_in(word: u64) -> Option<u64>
+    ensures { result ≡ unless_0 (number_at codes word) }
+{
+    number_in(word).or_else(|| lettered_in(word))
 }
 
 // ---- sets of codes
 
 // The codes that are present, by their numbers: c is bit c of `low` below 64, else bit c - 64 of `high`.
-#[derive(Clone, Copy)]
+#[derive(Clone, Copy, Debug, PartialEq, Eq)]
 pub struct Services {
     pub low: u64,
     pub high: u64,
 }
 
-#[derive(Clone, Copy)]
-pub enum ServicesReading {
-    Absent,
-    Value(Services),
-    Malformed,
-}
+pub type ServicesReading = Reading<Services>;
 
-impl ServicesReading {
-    pub fn is_malformed(self) -> bool
-        ensures { Gives (malformed_services self) result }
-    {
-        match self {
-            ServicesReading::Absent => false,
-            ServicesReading::Value(_) => false,
-            ServicesReading::Malformed => true,
-        }
-    }
-
+impl Reading<Services> {
     // The services that were read; none where the field is blank.
     pub fn services(self) -> Services
         ensures { Gives (services_in self) result }
     {
-        match self {
-            ServicesReading::Absent => Services { low: 0, high: 0 },
-            ServicesReading::Value(s) => s,
-            ServicesReading::Malformed => Services { low: 0, high: 0 },
-        }
+        self.value().unwrap_or(Services { low: 0, high: 0 })
     }
 }
 
@@ -178,108 +160,67 @@ fn with_code(s: Services, code: u64) -> Services
     }
 }
 
-// The set with one code more; malformed where it is no code, or is there already.
-fn add_code(s: Services, code: u64) -> ServicesReading
-    ensures { result ≡ added_one s code }
+// The set with the code of a word more; none where the word is no code, or the code is there already.
+fn with_word(s: Services, word: u64) -> Option<Services>
+    ensures { result ≡ added_one s (number_at codes word) }
 {
+    let code = code_in(word)?;
     let good = (1 <= code) & (code <= 127) & !s.has(code);
-    if good {
-        ServicesReading::Value(with_code(s, code))
-    } else {
-        ServicesReading::Malformed
-    }
+    if good { Some(with_code(s, code)) } else { None }
 }
 
 // ---- the scan
 
-// What a scan of services knows: the codes before the last "+", the word behind it, its bytes as places of 256, and whether a code was no good.
+// What a scan of services knows: the codes before the last "+", and the word behind it, its bytes as places of 256.
 #[derive(Clone, Copy)]
 pub struct Scan {
     pub services: Services,
     pub word: u64,
-    pub bad: bool,
 }
 
-// The scan behind a "+".
-fn behind_plus(scan: Scan) -> Scan
-    ensures { result ≡ behind_plus scan }
-{
-    let services = scan.services;
-    match add_code(services, code_in(scan.word)) {
-        ServicesReading::Value(more) => Scan {
-            services: more,
-            word: 0,
-            bad: scan.bad,
-        },
-        ServicesReading::Absent => Scan {
-            services,
-            word: 0,
-            bad: true,
-        },
-        ServicesReading::Malformed => Scan {
-            services,
-            word: 0,
-            bad: true,
-        },
-    }
-}
-
-// The scan behind a byte of a word, or a "+".
-fn behind(scan: Scan, b: u8) -> Scan
+// The scan behind a byte of a word, or a "+"; none where the code before it was no good.
+fn behind(scan: Scan, b: u8) -> Option<Scan>
     requires { 32 < b }
     ensures { result ≡ behind_byte scan b }
 {
     if b == b'+' {
-        return behind_plus(scan);
+        let services = with_word(scan.services, scan.word)?;
+        return Some(Scan { services, word: 0 });
     }
-    let services = scan.services;
-    Scan {
-        services,
+    Some(Scan {
+        services: scan.services,
         word: with_byte(scan.word, b),
-        bad: scan.bad,
-    }
+    })
 }
 
 // What a scan gives where the words end: nothing but spaces may follow.
-fn finished(scan: Scan, rest: &[u8]) -> ServicesReading
+fn finished(scan: Scan, rest: &[u8]) -> Option<Services>
     ensures { result ≡ finished scan rest.now }
 {
-    let good = text::blank(rest) & !scan.bad;
-    if good {
-        add_code(scan.services, code_in(scan.word))
-    } else {
-        ServicesReading::Malformed
+    if !text::blank(rest) {
+        return None;
     }
+    with_word(scan.services, scan.word)
 }
 
-fn scan_services(f: &[u8]) -> ServicesReading
-    ensures { result ≡ added no_services (numbers_in codes f.now) }
+fn scan_services(f: &[u8]) -> Option<Services>
+    ensures { or_malformed result ≡ added no_services (numbers_in codes f.now) }
 {
     let mut scan = Scan {
         services: Services { low: 0, high: 0 },
         word: 0,
-        bad: false,
     };
-    let mut i = 0;
-    while i < f.len() {
-        let b = f[i];
-        if b <= 32 {
+    for (i, b) in f.iter().enumerate() {
+        if *b <= b' ' {
             return finished(scan, &f[i..]);
         }
-        scan = behind(scan, b);
-        i += 1;
+        scan = behind(scan, *b)?;
     }
-    finished(scan, &f[i..])
+    with_word(scan.services, scan.word)
 }
 
 pub fn read_services(f: &[u8]) -> ServicesReading
     ensures { Gives (read_services f.now) result }
 {
-    if f.len() != SERVICES_WIDTH {
-        return ServicesReading::Malformed;
-    }
-    if text::blank(f) {
-        return ServicesReading::Absent;
-    }
-    scan_services(f)
+    framed(f, SERVICES_WIDTH, scan_services)
 }

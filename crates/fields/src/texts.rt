@@ -1,49 +1,40 @@
 // 4, 7 to 11, 13, 20, 26: texts and e-mail.
-ghost use Rattle.std.specs.Prelude.{◌≡◌, true, cond, ◌+◌, ◌≤◌, length, get_or, take, drop, eqb};
+ghost use Rattle.std.specs.Prelude.{◌≡◌, true, cond, ◌≤◌, length, drop, Some, None, IfSome};
 ghost use Rattle.std.specs.Int.Bits.{bit_and};
 ghost use Rattle.text.specs.Promises.{Gives};
 ghost use Rattle.text.specs.Bytes.{every, is_blank, run};
-ghost use Rattle.fields.specs.Texts.{is_text, filled, read_text, is_plain, contains, is_host, read_mail, malformed_text, absent_text};
+ghost use Rattle.fields.specs.WordTexts.{asks_text, text_at_once};
+ghost use Rattle.fields.specs.Texts.{is_text, filled, read_text, is_plain, is_host, is_mail, mail_end, read_mail};
 
+use crate::reading::{Reading, framed};
 use layout::WIDTHS;
+use text::ByteClass;
 
 const MAIL_WIDTH: usize = WIDTHS[13 - 1];
 
 // A text by how many bytes stand before the spaces at its end.
-#[derive(Clone, Copy)]
-pub enum TextReading {
-    Absent,
-    Value(usize),
-    Malformed,
-}
+pub type TextReading = Reading<usize>;
 
-impl TextReading {
-    pub fn is_malformed(self) -> bool
-        ensures { Gives (malformed_text self) result }
-    {
-        match self {
-            TextReading::Absent => false,
-            TextReading::Value(_) => false,
-            TextReading::Malformed => true,
-        }
+// Bytes of text.
+struct Text;
+
+impl ByteClass for Text {
+    ghost test = { is_text };
+
+    ghost word_test = { asks_text };
+
+    fn has(b: u8) -> bool {
+        matches!(b, 0x20..=0x7E | 0x80..)
     }
 
-    pub fn is_absent(self) -> bool
-        ensures { Gives (absent_text self) result }
-    {
-        match self {
-            TextReading::Absent => true,
-            TextReading::Value(_) => false,
-            TextReading::Malformed => false,
-        }
+    // With t the low seven bits of a byte, t + 60h has bit 7 where t is 20h or more, and t + 1 where it is 7Fh.
+    fn has_all(word: u64) -> bool {
+        let t = low_bits(word);
+        (((t + 0x6060_6060_6060_6060) ^ (t + 0x0101_0101_0101_0101)) | word) & 0x8080_8080_8080_8080
+            == 0x8080_8080_8080_8080
     }
-}
 
-// Bytes are below 256, so this is 20h to 7Eh or 80h to FFh.
-fn is_text(b: u8) -> bool
-    ensures { result ≡ is_text b }
-{
-    (32 <= b) & (b != 127)
+    ghost words = { text_at_once };
 }
 
 // The low seven bits of each byte of a word.
@@ -53,68 +44,30 @@ fn low_bits(w: u64) -> u64
     w & 0x7f7f_7f7f_7f7f_7f7f
 }
 
-// Whether eight bytes from place i on are text, told at once. With t the low seven bits of a byte, t + 60h has bit 7 where t is 20h or more,
-// and t + 1 where it is 7Fh.
-fn text8(f: &[u8], i: usize) -> bool
-    requires { i + 8 ≤ length f.now }
-    ensures { result ≡ every is_text (take 8 (drop i f.now)) }
-{
-    let w = text::word(&f[i..]);
-    let t = low_bits(w);
-    (((t + 0x6060_6060_6060_6060) ^ (t + 0x0101_0101_0101_0101)) | w) & 0x8080_8080_8080_8080
-        == 0x8080_8080_8080_8080
-}
-
 pub fn all_text(f: &[u8]) -> bool
     ensures { Gives (every is_text f.now) result }
 {
-    let mut i = 0;
-    while 8 <= f.len() - i {
-        if !text8(f, i) {
-            return false;
-        }
-        i += 8;
-    }
-    // The last eight at once, as in `text::blank`.
-    if 8 <= f.len() {
-        return text8(f, f.len() - 8);
-    }
-    while i < f.len() {
-        if !is_text(f[i]) {
-            return false;
-        }
-        i += 1;
-    }
-    true
+    text::every::<Text>(f)
 }
 
-// A place from which on there are only spaces: found by eights from the end, as most of a field is often blank.
-fn blank_from(f: &[u8]) -> usize
-    ensures { (result ≤ length f.now) × (is_blank (drop result f.now) ≡ true) }
-{
-    let mut n = f.len();
-    while 8 <= n {
-        let a = n - 8;
-        if !text::blank(&f[a..n]) {
-            return n;
-        }
-        n = a;
-    }
-    n
-}
-
-// How many bytes stand before the spaces at the end.
+// How many bytes stand before the spaces at the end: looked for by eights first, as most of a field is often blank.
 fn filled(f: &[u8]) -> usize
     ensures { (result ≡ filled f.now) × (result ≤ length f.now) }
 {
-    let mut n = blank_from(f);
-    while 0 < n {
-        if f[n - 1] != b' ' {
-            return n;
+    let mut front = f;
+    while let Some((before, eight)) = front.split_last_chunk::<8>() {
+        if !text::blank(eight) {
+            break;
         }
-        n -= 1;
+        front = before;
     }
-    n
+    while let Some((last, before)) = front.split_last() {
+        if *last != b' ' {
+            break;
+        }
+        front = before;
+    }
+    front.len()
 }
 
 // Reads a text field of so many bytes.
@@ -122,96 +75,71 @@ pub fn read_text(f: &[u8], width: usize) -> TextReading
     ensures { Gives (read_text width f.now) result }
 {
     if f.len() != width {
-        return TextReading::Malformed;
+        return Reading::Malformed;
     }
     let n = filled(f);
     if n == 0 {
-        return TextReading::Absent;
+        return Reading::Absent;
     }
-    let good = all_text(&f[0..n]) & !starts_with(f, b' ');
-    if good {
-        TextReading::Value(n)
+    if f[0] == b' ' {
+        return Reading::Malformed;
+    }
+    if all_text(&f[..n]) {
+        Reading::Value(n)
     } else {
-        TextReading::Malformed
+        Reading::Malformed
     }
-}
-
-fn starts_with(f: &[u8], b: u8) -> bool
-    ensures { result ≡ eqb (get_or f.now 0 0) b }
-{
-    if f.len() == 0 { b == 0 } else { f[0] == b }
 }
 
 // A byte of an e-mail that is no "@".
 fn is_plain(b: u8) -> bool
     ensures { result ≡ is_plain b }
 {
-    ((33 <= b) & (b <= 126) | (128 <= b)) & !(b == b'@')
+    matches!(b, 0x21..=0x7E | 0x80..) && b != b'@'
 }
 
 fn plain_run(f: &[u8]) -> usize
     ensures { (result ≡ run is_plain f.now) × (result ≤ length f.now) }
 {
-    let mut i = 0;
-    while i < f.len() {
-        if !is_plain(f[i]) {
-            return i;
-        }
-        i += 1;
-    }
-    i
+    f.iter().take_while(|b| is_plain(**b)).count()
 }
 
-fn has_dot(f: &[u8]) -> bool
-    ensures { result ≡ contains 46 f.now }
-{
-    let mut i = 0;
-    while i < f.len() {
-        if f[i] == b'.' {
-            return true;
-        }
-        i += 1;
-    }
-    false
-}
-
-// How long a host stands in front of nothing but spaces, with a dot that is neither its first byte nor its last; else 0.
-fn host_length(f: &[u8]) -> usize
-    ensures { (result ≡ cond (is_host f.now) (run is_plain f.now) 0) × (result ≤ length f.now) }
+// How long a host stands in front of nothing but spaces, with a dot that is neither its first byte nor its last.
+fn host_length(f: &[u8]) -> Option<usize>
+    ensures { (result ≡ cond (is_host f.now) (Some (run is_plain f.now)) None) × IfSome result (λ n. n ≤ length f.now) }
 {
     let n = plain_run(f);
     if n < 2 {
-        return 0;
+        return None;
     }
-    let e = n - 1;
-    let good = has_dot(&f[1..e]) & text::blank(&f[n..]);
-    if good { n } else { 0 }
+    if !f[1..n - 1].contains(&b'.') {
+        return None;
+    }
+    text::blank(&f[n..]).then_some(n)
+}
+
+// How many bytes of an e-mail stand before the spaces.
+fn mail_end(f: &[u8]) -> Option<usize>
+    ensures { result ≡ cond (is_mail f.now) (Some (mail_end f.now)) None }
+{
+    let at = plain_run(f);
+    if at == 0 {
+        return None;
+    }
+    if at == f.len() {
+        return None;
+    }
+    if f[at] != b'@' {
+        return None;
+    }
+    let Some(host) = host_length(&f[at + 1..]) else {
+        return None;
+    };
+    Some(at + 1 + host)
 }
 
 pub fn read_mail(f: &[u8]) -> TextReading
     ensures { Gives (read_mail f.now) result }
 {
-    if f.len() != MAIL_WIDTH {
-        return TextReading::Malformed;
-    }
-    if text::blank(f) {
-        return TextReading::Absent;
-    }
-    let at = plain_run(f);
-    if at == 0 {
-        return TextReading::Malformed;
-    }
-    if at == MAIL_WIDTH {
-        return TextReading::Malformed;
-    }
-    let parted = f[at] == b'@';
-    if !parted {
-        return TextReading::Malformed;
-    }
-    let behind = at + 1;
-    let host = host_length(&f[behind..]);
-    if host == 0 {
-        return TextReading::Malformed;
-    }
-    TextReading::Value(behind + host)
+    framed(f, MAIL_WIDTH, mail_end)
 }

@@ -1,17 +1,14 @@
 -- One outcome only: two that satisfy the promise of a function for C are the same, the caller's array and both buffers included.
 -- Assumes nothing.
 use Prim.Native.Nat.{ℕ}
-use mathlib.Core.Path.{◌≡◌, ap}
+use mathlib.Core.Path.{◌≡◌, sym, ap, ap₂, ◌∙◌}
 use mathlib.Core.Bool.{Bool}
 use mathlib.Core.List.{List}
 use Rattle.text.specs.declared.Answer.{Answer}
+use Rattle.text.specs.Answers.{answer}
 use Rattle.text.proofs.OneOutcome.{gives_once}
-use Rattle.ident.proofs.OneOutcome as Ident
 use Rattle.fields.specs.Calls as Fields
-use Rattle.fields.proofs.OneOutcome as Numbers
-use Rattle.posting.specs.declared.FileAnswer.{FileAnswer}
-use Rattle.psc.specs.declared.Reading.{Reading}
-use Rattle.psc.proofs.OneOutcome as Psc
+use Rattle.posting.specs.File.{FileAnswer}
 use Rattle.batch.specs.Batch.{Batch, Call}
 use Rattle.fuganorezi.specs.declared.TableOutcome.{TableOutcome}
 use Rattle.fuganorezi.specs.declared.BatchOutcome.{BatchOutcome}
@@ -19,7 +16,7 @@ use Rattle.fuganorezi.specs.declared.CodeAndPlace.{CodeAndPlace}
 use Rattle.fuganorezi.specs.declared.IdentifierParts.{IdentifierParts}
 use Rattle.fuganorezi.specs.declared.IdentifierOutcome.{IdentifierOutcome}
 use Rattle.fuganorezi.specs.declared.RecordOutcome.{RecordOutcome}
-use Rattle.fuganorezi.specs.Calls.{IdentifierChecked, IdentifierRead, RecordChecked, answer_of, parts_in, IdentifierWritten, read_in, TableRead, Answered, BatchCalled}
+use Rattle.fuganorezi.specs.Calls.{IdentifierChecked, IdentifierRead, RecordChecked, answer_of, IdentifierWritten, TableRead, Answered, BatchCalled}
 
 pub identifier_checked_once : (id : List ℕ) (r s : ℕ) → IdentifierChecked id r → IdentifierChecked id s → r ≡ s
 identifier_checked_once id r s = gives_once _ r s
@@ -36,14 +33,12 @@ by_value_once r s = ap (λ (a : Answer). record { code = a.code; place = a.place
 
 pub identifier_written_once : (before : List ℕ) (p : IdentifierParts) (r s : CodeAndPlace) (after after' : List ℕ)
     → IdentifierWritten before p r after → IdentifierWritten before p s after' → (r ≡ s) × (after ≡ after')
-identifier_written_once before p r s after after' u v =
-    let once = Ident.written_once before (parts_in p) (answer_of r) (answer_of s) after after' u v in (by_value_once r s once.0, once.1)
+identifier_written_once before p r s after after' u v = (by_value_once r s (u.answers ∙ sym v.answers), gives_once _ after after' u.bytes v.bytes)
 
 -- of the amount's writer and of the weight's
 pub number_written_once : (width : ℕ) (has : Bool) (text before : List ℕ) (r s : CodeAndPlace) (after after' : List ℕ)
     → Fields.Written width has text before (answer_of r) after → Fields.Written width has text before (answer_of s) after' → (r ≡ s) × (after ≡ after')
-number_written_once width has text before r s after after' u v =
-    let once = Numbers.written_once width has text before (answer_of r) (answer_of s) after after' u v in (by_value_once r s once.0, once.1)
+number_written_once width has text before r s after after' u v = (by_value_once r s (u.answers ∙ sym v.answers), gives_once _ after after' u.bytes v.bytes)
 
 -- ---- of the file check and of the closing check
 pub answered_once : (a : FileAnswer) (r s : ℕ) (out out' : List ℕ) → Answered a r out → Answered a s out' → (r ≡ s) × (out ≡ out')
@@ -59,6 +54,10 @@ batch_called_once table b call r s file file' journal journal' u v = (
 
 -- ---- of reading a table
 pub table_read_once : (text before : List ℕ) (r s : TableOutcome) (after after' : List ℕ) → TableRead text before r after → TableRead text before s after' → (r ≡ s) × (after ≡ after')
-table_read_once text before r s after after' u v =
-    let once = Psc.table_read_once text before (read_in r) (read_in s) after after' u v in
-    (ap (λ (x : Reading). record { code = x.answer.code; place = x.answer.place; entries = x.entries }) once.0, once.1)
+table_read_once text before r s after after' u v = (
+  outcome_once (u.answers ∙ sym v.answers) (u.counts ∙ sym v.counts),
+  gives_once _ after after' u.entries v.entries,
+)
+  where
+    outcome_once : answer r.code r.place ≡ answer s.code s.place → r.entries ≡ s.entries → r ≡ s
+    outcome_once same many = ap₂ (λ (x : Answer) (n : ℕ). record { code = x.code; place = x.place; entries = n }) same many

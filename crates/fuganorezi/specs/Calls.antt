@@ -1,24 +1,21 @@
 -- What C is promised: the numbers of the answers that the crates below define.
 -- Assumes nothing.
-use Rattle.std.specs.Prelude.{ℕ, List, Bool, cond, ◌≡◌}
+use Rattle.std.specs.Prelude.{ℕ, List, length, Bool, cond, ◌≡◌, Option, None}
+use Rattle.text.specs.Lists.{overlay}
 use Rattle.text.specs.declared.Answer.{Answer}
 use Rattle.text.specs.Answers.{answer, accepted}
 use Rattle.ident.specs.declared.Parts.{Parts}
 use Rattle.ident.specs.Identifier.{right_id}
 use Rattle.ident.specs.declared.consignor.Consignor.{Consignor}
-use Rattle.ident.specs.declared.consignor.Consignor.TheVariants.{Nobody}
 use Rattle.ident.specs.Calls as Ident
 use Rattle.ident.specs.Consignor.{consignor_in, type_of, number_of}
-use Rattle.fields.specs.declared.amounts.MoneyReading.TheVariants as Money
-use Rattle.fields.specs.declared.amounts.WeightReading.TheVariants as Weight
+use Rattle.fields.specs.declared.reading.Reading.TheVariants.{Value}
 use Rattle.fields.specs.Calls as Fields
-use Rattle.psc.specs.declared.Reading.{Reading}
-use Rattle.psc.specs.Calls as Psc
-use Rattle.record.specs.declared.RecordCheck.{RecordCheck}
+use Rattle.psc.specs.Text.{lines_in, table_in}
+use Rattle.psc.specs.Calls.{read_answer, is_read}
 use Rattle.record.specs.Rules.{check_answer}
-use Rattle.record.specs.Consignors.{with_consignor}
-use Rattle.posting.specs.declared.FileAnswer.{FileAnswer}
-use Rattle.posting.specs.File.{totals, file_check}
+use Rattle.record.specs.Consignors.{consignor_of}
+use Rattle.posting.specs.File.{FileAnswer, totals, file_check}
 use Rattle.posting.specs.Report.{numbers_of}
 use Rattle.closing.specs.Closing.{closing_answer}
 use Rattle.batch.specs.declared.Counts.{Counts}
@@ -37,7 +34,7 @@ abbrev pub IdentifierChecked : List ℕ → ℕ → Type 0
 IdentifierChecked s r = r ≡ cond (right_id s) accepted.code (Ident.not_right).code
 
 -- ---- whose an identifier is, as two numbers, and what it says
-abbrev pub consignor_out : Consignor → TypeAndNumber
+abbrev pub consignor_out : Option Consignor → TypeAndNumber
 consignor_out c = record { kind = type_of c; number = number_of c }
 
 abbrev pub parts_out : Parts → IdentifierParts
@@ -46,19 +43,19 @@ parts_out p = record { first = p.first; second = p.second; last = p.last; consig
 abbrev pub no_parts : IdentifierParts
 no_parts = record { first = 0; second = 0; last = 0; consignor = 0; posting = 0 }
 
-abbrev pub identifier_out : Answer → Consignor → IdentifierParts → IdentifierOutcome
+abbrev pub identifier_out : Answer → Option Consignor → IdentifierParts → IdentifierOutcome
 identifier_out a c p = record { code = a.code; place = a.place; consignor = consignor_out c; parts = p }
 
 -- of a right identifier its consignor and its parts; of anything else neither
 abbrev pub IdentifierRead : List ℕ → IdentifierOutcome → Type 0
-IdentifierRead s r = r ≡ cond (right_id s) (identifier_out accepted (consignor_in s) (parts_out (Ident.parts_of s))) (identifier_out Ident.not_right Nobody no_parts)
+IdentifierRead s r = r ≡ cond (right_id s) (identifier_out accepted (consignor_in s) (parts_out (Ident.parts_of s))) (identifier_out Ident.not_right None no_parts)
 
 -- ---- one record: the answer to it in a file, or to one to be posted, under a table of postcodes, and the consignor of field 1
-abbrev pub record_out : RecordCheck → RecordOutcome
-record_out k = record { code = k.answer.code; place = k.answer.place; consignor = consignor_out k.consignor }
+abbrev pub record_out : Answer → Option Consignor → RecordOutcome
+record_out a c = record { code = a.code; place = a.place; consignor = consignor_out c }
 
 abbrev pub RecordChecked : Bool → List ℕ → List ℕ → RecordOutcome → Type 0
-RecordChecked to_be_posted table rec r = r ≡ record_out (with_consignor (check_answer to_be_posted table rec) rec)
+RecordChecked to_be_posted table rec r = r ≡ record_out (check_answer to_be_posted table rec) (consignor_of rec)
 
 -- ---- the writers: an answer by value
 abbrev pub answer_of : CodeAndPlace → Answer
@@ -72,17 +69,16 @@ abbrev pub IdentifierWritten : List ℕ → IdentifierParts → CodeAndPlace →
 IdentifierWritten before p r after = Ident.Written before (parts_in p) (answer_of r) after
 
 abbrev pub AmountWritten : List ℕ → ℕ → CodeAndPlace → List ℕ → Type 0
-AmountWritten before hellers r after = Fields.MoneyWritten before (Money.Value (record { 0 = hellers })) (answer_of r) after
+AmountWritten before hellers r after = Fields.MoneyWritten before (Value (record { 0 = hellers })) (answer_of r) after
 
 abbrev pub WeightWritten : List ℕ → ℕ → CodeAndPlace → List ℕ → Type 0
-WeightWritten before grams r after = Fields.WeightWritten before (Weight.Value (record { 0 = grams })) (answer_of r) after
+WeightWritten before grams r after = Fields.WeightWritten before (Value (record { 0 = grams })) (answer_of r) after
 
--- ---- the table of postcodes: what reading its text promises, below
-abbrev pub read_in : TableOutcome → Reading
-read_in r = record { answer = answer r.code r.place; entries = r.entries }
-
-abbrev pub TableRead : List ℕ → List ℕ → TableOutcome → List ℕ → Type 0
-TableRead text before r after = Psc.TableRead text before (read_in r) after
+-- ---- the table of postcodes: what reading its text promises, as below, its entries 0 where it is refused
+pub record TableRead (text before : List ℕ) (r : TableOutcome) (after : List ℕ) : Type 0 where
+  pub answers : answer r.code r.place ≡ read_answer text (length before)
+  pub counts : r.entries ≡ cond (is_read text (length before)) (lines_in text) 0
+  pub entries : after ≡ cond (is_read text (length before)) (overlay before 0 (table_in text)) before
 
 -- ---- a whole file
 

@@ -2,21 +2,23 @@
 #![tactic(auto)]
 
 ghost use Rattle.std.specs.Prelude.{◌≡◌, true, false};
-ghost use Rattle.batch.specs.Batch.{no_counts, batch_of, Add, Amend, Cancel, Undo};
-ghost use Rattle.fuganorezi.specs.Calls.{IdentifierChecked, consignor_out, parts_out, no_parts, IdentifierRead, record_out, RecordChecked, answer_of, parts_in, IdentifierWritten, AmountWritten, WeightWritten, TableRead, Answered, FileChecked, ClosingChecked, counts_in, outcome_of, BatchCalled, BatchOpened};
+ghost use Rattle.text.specs.Answers.{answered};
+ghost use Rattle.posting.specs.File.{file_answered};
+ghost use Rattle.batch.specs.Batch.{no_counts, counts_or, batch_of, Add, Amend, Cancel, Undo};
+ghost use Rattle.fuganorezi.specs.Calls.{IdentifierChecked, consignor_out, parts_out, identifier_out, IdentifierRead, record_out, RecordChecked, answer_of, parts_in, IdentifierWritten, AmountWritten, WeightWritten, TableRead, Answered, FileChecked, ClosingChecked, counts_in, counts_out, outcome_of, BatchCalled, BatchOpened};
 
-use batch::{Counts, Outcome};
-use fields::{Grams, Hellers, MoneyReading, WeightReading};
-use ident::{Consignor, Parts, Reading};
-use posting::{FileAnswer, Totals};
+use batch::Counts;
+use fields::{Grams, Hellers, Reading};
+use ident::{Consignor, Parts};
+use posting::{Break, Totals};
 use record::RecordCheck;
-use text::Answer;
+use text::{ACCEPTED, Answer, Refusal};
 
 #[unsafe(no_mangle)]
 pub extern "C" fn fuganorezi_identifier_check(bytes: &[u8]) -> u32
     ensures { IdentifierChecked bytes.now result }
 {
-    ident::check(bytes).code
+    Answer::from(ident::check(bytes)).code
 }
 
 // ---- whose an identifier is, and what it says: by value, with code and place
@@ -48,56 +50,78 @@ pub struct IdentifierOutcome {
     pub parts: IdentifierParts,
 }
 
-fn consignor_out(c: Consignor) -> TypeAndNumber
-    ensures { result ≡ consignor_out c }
-{
-    TypeAndNumber {
-        kind: c.kind() as u32,
-        number: c.number(),
+impl From<Option<Consignor>> for TypeAndNumber {
+    ghost from_gives = { λ c r. r ≡ consignor_out c };
+
+    fn from(consignor: Option<Consignor>) -> TypeAndNumber {
+        match consignor {
+            Some(c) => TypeAndNumber {
+                kind: u32::from(c.kind),
+                number: c.number,
+            },
+            None => TypeAndNumber { kind: 0, number: 0 },
+        }
     }
 }
 
-fn parts_out(p: Parts) -> IdentifierParts
-    ensures { result ≡ parts_out p }
-{
-    IdentifierParts {
-        first: p.first,
-        second: p.second,
-        last: p.last,
-        consignor: p.consignor,
-        posting: p.posting,
+impl From<Parts> for IdentifierParts {
+    ghost from_gives = { λ p r. r ≡ parts_out p };
+
+    fn from(p: Parts) -> IdentifierParts {
+        IdentifierParts {
+            first: p.first,
+            second: p.second,
+            last: p.last,
+            consignor: p.consignor,
+            posting: p.posting,
+        }
     }
 }
 
-fn no_parts() -> IdentifierParts
-    ensures { result ≡ no_parts }
-{
-    IdentifierParts {
-        first: 0,
-        second: 0,
-        last: 0,
-        consignor: 0,
-        posting: 0,
+impl From<IdentifierParts> for Parts {
+    ghost from_gives = { λ p r. r ≡ parts_in p };
+
+    fn from(p: IdentifierParts) -> Parts {
+        Parts {
+            first: p.first,
+            second: p.second,
+            last: p.last,
+            consignor: p.consignor,
+            posting: p.posting,
+        }
     }
 }
+
+fn identifier_out(
+    said: Answer,
+    consignor: Option<Consignor>,
+    parts: IdentifierParts,
+) -> IdentifierOutcome
+    ensures { result ≡ identifier_out said consignor parts }
+{
+    IdentifierOutcome {
+        code: said.code,
+        place: said.place,
+        consignor: TypeAndNumber::from(consignor),
+        parts,
+    }
+}
+
+const NO_PARTS: IdentifierParts = IdentifierParts {
+    first: 0,
+    second: 0,
+    last: 0,
+    consignor: 0,
+    posting: 0,
+};
 
 #[unsafe(no_mangle)]
 pub extern "C" fn fuganorezi_identifier_read(bytes: &[u8]) -> IdentifierOutcome
     ensures { IdentifierRead bytes.now result }
 {
     match ident::read(bytes) {
-        Reading::Right(parts) => IdentifierOutcome {
-            code: 0,
-            place: 0,
-            consignor: consignor_out(parts.whose()),
-            parts: parts_out(parts),
-        },
-        Reading::Refused(a) => IdentifierOutcome {
-            code: a.code,
-            place: a.place,
-            consignor: consignor_out(Consignor::Nobody),
-            parts: no_parts(),
-        },
+        Ok(parts) => identifier_out(ACCEPTED, parts.whose(), IdentifierParts::from(parts)),
+        Err(refusal) => identifier_out(Answer::from(refusal), None, NO_PARTS),
     }
 }
 
@@ -111,15 +135,16 @@ pub struct RecordOutcome {
     pub consignor: TypeAndNumber,
 }
 
-fn record_outcome(check: RecordCheck) -> RecordOutcome
-    ensures { result ≡ record_out check }
-{
-    let said = check.answer;
-    let consignor = check.consignor;
-    RecordOutcome {
-        code: said.code,
-        place: said.place,
-        consignor: consignor_out(consignor),
+impl From<RecordCheck> for RecordOutcome {
+    ghost from_gives = { λ k r. r ≡ record_out (answered k.answer) k.consignor };
+
+    fn from(check: RecordCheck) -> RecordOutcome {
+        let said = Answer::from(check.answer);
+        RecordOutcome {
+            code: said.code,
+            place: said.place,
+            consignor: TypeAndNumber::from(check.consignor),
+        }
     }
 }
 
@@ -127,14 +152,14 @@ fn record_outcome(check: RecordCheck) -> RecordOutcome
 pub extern "C" fn fuganorezi_record_check(bytes: &[u8], table: &[u32]) -> RecordOutcome
     ensures { RecordChecked false table.now bytes.now result }
 {
-    record_outcome(record::check(bytes, table))
+    RecordOutcome::from(record::check(bytes, table))
 }
 
 #[unsafe(no_mangle)]
 pub extern "C" fn fuganorezi_record_check_posting(bytes: &[u8], table: &[u32]) -> RecordOutcome
     ensures { RecordChecked true table.now bytes.now result }
 {
-    record_outcome(record::check_posting(bytes, table))
+    RecordOutcome::from(record::check_posting(bytes, table))
 }
 
 // ---- the writers: code and place by value
@@ -146,24 +171,15 @@ pub struct CodeAndPlace {
     pub place: u32,
 }
 
-fn by_value(a: Answer) -> CodeAndPlace
-    ensures { answer_of result ≡ a }
-{
-    CodeAndPlace {
-        code: a.code,
-        place: a.place,
-    }
-}
+impl From<Result<(), Refusal>> for CodeAndPlace {
+    ghost from_gives = { λ q r. answer_of r ≡ answered q };
 
-fn parts_in(p: IdentifierParts) -> Parts
-    ensures { result ≡ parts_in p }
-{
-    Parts {
-        first: p.first,
-        second: p.second,
-        last: p.last,
-        consignor: p.consignor,
-        posting: p.posting,
+    fn from(given: Result<(), Refusal>) -> CodeAndPlace {
+        let said = Answer::from(given);
+        CodeAndPlace {
+            code: said.code,
+            place: said.place,
+        }
     }
 }
 
@@ -174,21 +190,21 @@ pub extern "C" fn fuganorezi_identifier_write(
 ) -> CodeAndPlace
     ensures { IdentifierWritten bytes.old parts result bytes.new }
 {
-    by_value(ident::write(bytes, parts_in(parts)))
+    CodeAndPlace::from(ident::write(bytes, Parts::from(parts)))
 }
 
 #[unsafe(no_mangle)]
 pub extern "C" fn fuganorezi_amount_write(bytes: &mut [u8], hellers: u64) -> CodeAndPlace
     ensures { AmountWritten bytes.old hellers result bytes.new }
 {
-    by_value(fields::write_money(bytes, MoneyReading::Value(Hellers(hellers))))
+    CodeAndPlace::from(fields::write_money(bytes, Reading::Value(Hellers(hellers))))
 }
 
 #[unsafe(no_mangle)]
 pub extern "C" fn fuganorezi_weight_write(bytes: &mut [u8], grams: u64) -> CodeAndPlace
     ensures { WeightWritten bytes.old grams result bytes.new }
 {
-    by_value(fields::write_weight(bytes, WeightReading::Value(Grams(grams))))
+    CodeAndPlace::from(fields::write_weight(bytes, Reading::Value(Grams(grams))))
 }
 
 // ---- the table of postcodes from its text
@@ -206,21 +222,24 @@ pub extern "C" fn fuganorezi_table_read(text: &[u8], table: &mut [u32]) -> Table
     ensures { TableRead text.now table.old result table.new }
 {
     let read = psc::read(text, table);
-    let said = read.answer;
+    let said = Answer::from(read);
     TableOutcome {
         code: said.code,
         place: said.place,
-        entries: read.entries as u64,
+        entries: read.unwrap_or(0) as u64,
     }
 }
 
 // ---- a whole file
 // The code is the result and stands in `out` too, so that `out` alone has the whole answer.
-fn told(answer: FileAnswer, out: &mut [u64; 7]) -> u32
-    ensures { Answered answer result out.new }
+fn told(answer: Result<Totals, Break>, out: &mut [u64; 7]) -> u32
+    ensures { Answered (file_answered answer) result out.new }
 {
     *out = posting::numbers_of(answer);
-    answer.code
+    match answer {
+        Ok(_) => 0,
+        Err(offence) => Answer::from(offence.refusal).code,
+    }
 }
 
 #[unsafe(no_mangle)]
@@ -259,40 +278,47 @@ pub struct BatchOutcome {
     pub counts: BatchCounts,
 }
 
-fn counts_in(c: BatchCounts) -> Counts
-    ensures { result ≡ counts_in c }
-{
-    Counts {
-        totals: Totals {
-            live: c.live,
-            cancelled: c.cancelled,
-            cash: Hellers(c.cash),
-            price: Hellers(c.price),
-        },
-        held: c.held as usize,
-        used: c.used as usize,
+impl From<BatchCounts> for Counts {
+    ghost from_gives = { λ c r. r ≡ counts_in c };
+
+    fn from(c: BatchCounts) -> Counts {
+        Counts {
+            totals: Totals {
+                live: c.live,
+                cancelled: c.cancelled,
+                cash: Hellers(c.cash),
+                price: Hellers(c.price),
+            },
+            held: c.held as usize,
+            used: c.used as usize,
+        }
     }
 }
 
-fn outcome_of(o: Outcome) -> BatchOutcome
-    ensures { result ≡ outcome_of o.answer o.counts }
+impl From<Counts> for BatchCounts {
+    ghost from_gives = { λ c r. r ≡ counts_out c };
+
+    fn from(c: Counts) -> BatchCounts {
+        BatchCounts {
+            live: c.totals.live,
+            cancelled: c.totals.cancelled,
+            cash: c.totals.cash.0,
+            price: c.totals.price.0,
+            held: c.held as u64,
+            used: c.used as u64,
+        }
+    }
+}
+
+// The next counts are those that a call gives; where it refuses, those that it got.
+fn outcome_of(given: Result<Counts, Refusal>, got: Counts) -> BatchOutcome
+    ensures { result ≡ outcome_of (answered given) (counts_or got given) }
 {
-    let answer = o.answer;
-    let c = o.counts;
-    let totals = c.totals;
-    let cash = totals.cash;
-    let price = totals.price;
+    let answer = Answer::from(given);
     BatchOutcome {
         code: answer.code,
         place: answer.place,
-        counts: BatchCounts {
-            live: totals.live,
-            cancelled: totals.cancelled,
-            cash: cash.0,
-            price: price.0,
-            held: c.held as u64,
-            used: c.used as u64,
-        },
+        counts: BatchCounts::from(given.unwrap_or(got)),
     }
 }
 
@@ -300,7 +326,7 @@ fn outcome_of(o: Outcome) -> BatchOutcome
 pub extern "C" fn fuganorezi_batch_open(file: &mut [u8], journal: &mut [u8]) -> BatchOutcome
     ensures { BatchOpened (batch_of file.old journal.old no_counts) result file.new journal.new }
 {
-    outcome_of(batch::open(file, journal))
+    outcome_of(batch::open(file, journal), Counts::default())
 }
 
 #[unsafe(no_mangle)]
@@ -313,7 +339,8 @@ pub extern "C" fn fuganorezi_batch_add(
 ) -> BatchOutcome
     ensures { BatchCalled table.now (batch_of file.old journal.old (counts_in counts)) (Add rec.now) result file.new journal.new }
 {
-    outcome_of(batch::add(file, journal, counts_in(counts), rec, table))
+    let got = Counts::from(counts);
+    outcome_of(batch::add(file, journal, got, rec, table), got)
 }
 
 #[unsafe(no_mangle)]
@@ -326,7 +353,8 @@ pub extern "C" fn fuganorezi_batch_amend(
 ) -> BatchOutcome
     ensures { BatchCalled table.now (batch_of file.old journal.old (counts_in counts)) (Amend rec.now) result file.new journal.new }
 {
-    outcome_of(batch::amend(file, journal, counts_in(counts), rec, table))
+    let got = Counts::from(counts);
+    outcome_of(batch::amend(file, journal, got, rec, table), got)
 }
 
 #[unsafe(no_mangle)]
@@ -339,7 +367,8 @@ pub extern "C" fn fuganorezi_batch_cancel(
 ) -> BatchOutcome
     ensures { BatchCalled table.now (batch_of file.old journal.old (counts_in counts)) (Cancel identifier.now) result file.new journal.new }
 {
-    outcome_of(batch::cancel(file, journal, counts_in(counts), identifier, table))
+    let got = Counts::from(counts);
+    outcome_of(batch::cancel(file, journal, got, identifier, table), got)
 }
 
 #[unsafe(no_mangle)]
@@ -351,5 +380,6 @@ pub extern "C" fn fuganorezi_batch_undo(
 ) -> BatchOutcome
     ensures { BatchCalled table.now (batch_of file.old journal.old (counts_in counts)) Undo result file.new journal.new }
 {
-    outcome_of(batch::undo(file, journal, counts_in(counts), table))
+    let got = Counts::from(counts);
+    outcome_of(batch::undo(file, journal, got, table), got)
 }

@@ -1,6 +1,5 @@
 pub mod Shapes
-pub mod Sums
-pub mod Ways
+pub mod Eights
 pub mod Writing
 pub mod Comparing
 pub mod Facts
@@ -9,3 +8,4 @@ pub mod SingleDigits
 pub mod RoundTrip
 pub mod Consignors
 pub mod OneOutcome
+pub mod Former

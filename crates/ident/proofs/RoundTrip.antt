@@ -23,7 +23,7 @@ use Rattle.text.proofs.Booleans.{clash}
 use Rattle.ident.specs.declared.Parts.{Parts}
 use Rattle.ident.specs.Identifier.{last_of, consignor_digits, posting_digits, consignor_of, posting_of, weights_for, weighted, check_digit, remainder, ends_right, right_id}
 use Rattle.ident.specs.Calls.{parts_of, both_numbers, check_byte, postfix, written, can_write}
-use Rattle.ident.proofs.Shapes.{eight_or_nine}
+use Rattle.ident.proofs.Shapes.{eight_or_nine, at_most_nine}
 use Rattle.ident.proofs.Facts.{Right, right_facts}
 use Rattle.ident.proofs.Writing.{can_prefix, can_known, consignor_fits, posting_fits, can_numbers, before_is, body_long}
 
@@ -102,7 +102,6 @@ module _ (p : Parts) (can : can_write p ≡ true) where
   written_parts = rw (first_back, second_back, consignor_back, posting_back, has.last)
 
   all_digits_lem : all_digits (part (written p) 2 (k + w + 3)) ≡ true
-  unfolding every
   all_digits_lem =
       let r : ℕ = weighted (weights_for (k + w)) (both_numbers p) % 11 in
       let small : check_digit r ≤ 9 = check_digit_small r (mod-lt _ (omega arith)) in
@@ -154,11 +153,7 @@ module _ (s : List ℕ) (right : right_id s ≡ true) where
   before = eight_or_nine (last_of s) known.known
 
   nine : k' + w' ≤ 9
-  nine = rw before (at_most (eqb (last_of s) 90))
-    where
-      at_most : (t : Bool) → cond t 8 9 ≤ 9
-      at_most true = omega arith
-      at_most false = omega arith
+  nine = at_most_nine (last_of s) known.known
 
   both_digits : (all_digits (part s 2 (k' + 2)) ≡ true) × (all_digits (part s (k' + 2) (k' + w' + 2)) ≡ true)
   both_digits =

@@ -6,6 +6,7 @@ use mathlib.Core.Bool.{Bool, true, false, cond, ◌||◌}
 use native.Mathlib.Omega.{arith}
 use borrow.Author.Tests.{eq-eqb, ne_eqb, leb-true, leb-false}
 use lib.Dec.{eqb, leb, eqb→eq}
+use Rattle.text.proofs.Booleans.{by_cond}
 use Rattle.text.proofs.Ranges.{below}
 use Rattle.ident.specs.declared.Shape.{Shape}
 use Rattle.ident.specs.Identifier.{shape_of, posting_digits, digits_before}
@@ -69,3 +70,6 @@ none_eight_nine l = go (leb l 90) refl
 
 pub eight_or_nine : (l : ℕ) → (posting_digits l ≡ 0 → ⊥) → digits_before l ≡ cond (eqb l 90) 8 9
 eight_or_nine l some = none_eight_nine l ∙ rw (ne_eqb (posting_digits l) 0 some)
+
+pub at_most_nine : (l : ℕ) → (posting_digits l ≡ 0 → ⊥) → digits_before l ≤ 9
+at_most_nine l some = rw (eight_or_nine l some) (by_cond (λ n. n ≤ 9) (eqb l 90) 8 9 (λ e. omega arith) (λ e. omega arith))

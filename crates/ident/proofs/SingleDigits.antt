@@ -2,7 +2,7 @@
 -- Assumes nothing.
 use Prim.Native.Nat.{ℕ, zero, suc, ◌+◌, ◌-◌, ◌*◌, ◌%◌, ◌≤◌, ◌<◌}
 use mathlib.Core.Path.{◌≡◌, sym, ap, ◌∙◌}
-use mathlib.Core.Bool.{Bool, true, false, cond, not, ◌&&◌, ◌||◌, and-eq-true_iff, and-false}
+use mathlib.Core.Bool.{Bool, true, false, not, ◌&&◌, ◌||◌, and-eq-true_iff, and-false}
 use mathlib.Core.List.{List, [], ◌∷◌}
 use mathlib.Core.Logic.{◌↔◌, inl, inr, ⊎_elim}
 use native.Mathlib.Nat.{mul-add, add_comm}
@@ -16,7 +16,7 @@ use Rattle.text.specs.Lists.{part}
 use Rattle.text.proofs.Ranges.{all_from, below, within, either, is_true}
 use Rattle.text.proofs.Numbers.{digit_bounds}
 use Rattle.ident.specs.Identifier.{last_of, digits_before, weights, weights_for, weighted, check_digit, sum_at, remainder_at, remainder, passes_at, Moves, passes, right_id}
-use Rattle.ident.proofs.Shapes.{eight_or_nine}
+use Rattle.ident.proofs.Shapes.{at_most_nine}
 use Rattle.ident.proofs.Facts.{Right, right_facts}
 
 -- ---- remainders 0 and 6 alone share a check digit
@@ -78,7 +78,6 @@ apart k a b s t p u v ne e m =
 
 -- ---- a list of 13 with n digits and their check digit from place 2 on
 digit_in : (l : List ℕ) (k : ℕ) → all_digits l ≡ true → k < length l → is_digit (get_or l k 0) ≡ true
-unfolding every
 digit_in [] k h p = absurd (omega arith)
 digit_in (x ∷ l) zero h p = ((and-eq-true_iff (is_digit x) (all_digits l)).0 h).0
 digit_in (x ∷ l) (suc k) h p = digit_in l k ((and-eq-true_iff (is_digit x) (all_digits l)).0 h).1 (omega arith)
@@ -143,11 +142,7 @@ module _ (s : List ℕ) (right : right_id s ≡ true) where
   known = right_facts s right
 
   nine : before ≤ 9
-  nine = rw (eight_or_nine (last_of s) known.known) (at_most (eqb (last_of s) 90))
-    where
-      at_most : (t : Bool) → cond t 8 9 ≤ 9
-      at_most true = omega arith
-      at_most false = omega arith
+  nine = at_most_nine (last_of s) known.known
 
   last_stays : (i d : ℕ) → i < before + 3 → i < 12 → last_of (set s i d) ≡ last_of s
   last_stays i d h g = get_or-set_other s i 12 d 0 (λ e. omega arith)

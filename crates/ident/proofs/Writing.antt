@@ -1,24 +1,24 @@
 -- The bytes that `fill` leaves are the identifier that the parts write.
 -- Assumes nothing.
-use Prim.Native.Nat.{ℕ, ◌+◌, ◌-◌, ◌*◌, ◌%◌, ◌^◌, ◌≤◌, ◌<◌}
-use mathlib.Core.Path.{◌≡◌, sym, ap, ◌∙◌}
+use Prim.Native.Nat.{ℕ, ◌+◌, ◌-◌, ◌%◌, ◌^◌, ◌≤◌, ◌<◌}
+use mathlib.Core.Path.{◌≡◌, sym, ap, ap₂, ◌∙◌}
 use mathlib.Core.Bool.{Bool, true, false, cond, ◌&&◌, ◌||◌, and-eq-true_iff}
-use mathlib.Core.List.{List, [], ◌∷◌, ◌++◌}
-use lib.Pow.{pow-add}
+use mathlib.Core.List.{List, [], ◌∷◌, ◌++◌, append_assoc}
 use native.Mathlib.Omega.{arith}
 use borrow.Author.Tests.{ltb-true}
 use borrow.Rule.Slice.PartMut.{put_mid, mid_len}
-use lib.Arith.{digits_lt}
+use Rattle.std.proofs.Common.{Some}
+use Rattle.std.proofs.lemmas.Slice.{take-put_mid, drop-put_mid}
 use lib.Dec.{eqb, ltb}
-use lib.ListN.{length, take, drop, set, length-append}
+use lib.ListN.{length, take, drop, set, length-append, length-take, length-drop}
 use Rattle.text.specs.Numbers.{digits}
 use Rattle.text.proofs.Lists.{spelled, put_is, put_there}
-use Rattle.text.proofs.Numbers.{ten_is, ten_grows, length_digits, digits_beside}
+use Rattle.text.proofs.Numbers.{length_digits}
 use Rattle.ident.specs.declared.Shape.{Shape}
 use Rattle.ident.specs.declared.Parts.{Parts}
-use Rattle.ident.specs.Identifier.{right_prefix, consignor_digits, posting_digits, digits_before, weights, weights_for, weighted, check_digit}
+use Rattle.ident.specs.Identifier.{Row, right_prefix, consignor_digits, posting_digits, digits_before, weights_for, weighted, check_digit}
 use Rattle.ident.specs.Calls.{both_numbers, check_byte, written, can_write}
-use Rattle.ident.proofs.Shapes.{Looked, eight_or_nine}
+use Rattle.ident.proofs.Shapes.{eight_or_nine, at_most_nine}
 
 -- ---- what parts that can be written have
 module _ (p : Parts) (can : can_write p ≡ true) where
@@ -54,35 +54,10 @@ module _ (p : Parts) (can : can_write p ≡ true) where
   before_is = eight_or_nine p.last (λ e. omega (arith, can_known))
 
   before_few : digits_before p.last ≤ 9
-  before_few = rw before_is (at_most (eqb p.last 90))
-    where
-      at_most : (t : Bool) → cond t 8 9 ≤ 9
-      at_most true = omega arith
-      at_most false = omega arith
+  before_few = at_most_nine p.last (λ e. omega (arith, can_known))
 
   pub body_long : length (both_numbers p) ≡ digits_before p.last
   body_long = simp (length-append, length_digits)
-
-  -- consignor and posting number side by side, as one number
-  number_below : p.consignor * 10 ^ posting_digits p.last + p.posting < 10 ^ digits_before p.last
-  number_below = rw (pow-add 10 (consignor_digits p.last) (posting_digits p.last)) (digits_lt consignor_fits posting_fits)
-
-  body_digits : digits (digits_before p.last) (p.consignor * 10 ^ posting_digits p.last + p.posting) ≡ both_numbers p
-  body_digits =
-      rw (ten_is (posting_digits p.last))
-      (digits_beside (consignor_digits p.last) p.consignor (posting_digits p.last) p.posting (rw (ten_is (posting_digits p.last)) at posting_fits))
-
-module _ (p : Parts) (k y : ℕ) (pre : (can_write p ≡ true) × (k ≡ posting_digits p.last) × (k < 10)) (ey : y ≡ 10 ^ k) where
-  pub number_small : p.consignor * y + p.posting < 1000000000
-  number_small =
-      let n : ℕ = digits_before p.last in
-      rw (ey, pre.1) (omega (arith, number_below p pre.0, ten_is n, ten_grows n 9 (before_few p pre.0)))
-
-  pub number_is : p.consignor * y + p.posting ≡ p.consignor * 10 ^ k + p.posting
-  number_is = rw ey
-
-pub posting_of_lem : (h : Shape) (l : ℕ) → Looked h l → h.posting ≡ posting_digits l
-posting_of_lem h l eh = rw eh.0
 
 -- ---- the five stores
 stored : (cz : Bool) (s d : List ℕ) (a b l x n : ℕ) → length s ≡ 13 → n ≡ cond cz 8 9 → length d ≡ n
@@ -90,28 +65,46 @@ stored : (cz : Bool) (s d : List ℕ) (a b l x n : ℕ) → length s ≡ 13 → 
 stored true s d a b l x n p e q = rw (e, spelled 13 s p, spelled 8 d (q ∙ e))
 stored false s d a b l x n p e q = rw (e, spelled 13 s p, spelled 9 d (q ∙ e))
 
-module _ (s t : List ℕ) (p : Parts) (n m x sum : ℕ) (long : length s ≡ 13) (can : can_write p ≡ true) (en : n ≡ digits_before p.last) (em : m ≡ p.consignor * 10 ^ posting_digits p.last + p.posting) where
-  filled_at : t ≡ digits (length (take (n + 2 - 2) (drop 2 s))) m
-      → sum ≡ weighted (weights_for n) (take (n + 2 - 2) (drop 2 (put_mid 2 (n + 2 - 2) s t)))
-      → x ≡ check_digit (sum % 11)
-      → set (set (set (set (set (put_mid 2 (n + 2 - 2) s t) 0 p.first) 1 p.second) 11 67) (n + 2) (48 + x)) 12 p.last ≡ written p
-  unfolding written
-  filled_at et es ex =
-      let nine : n ≡ cond (eqb p.last 90) 8 9 = en ∙ before_is p can in
-      let few : n + 2 ≤ length s = omega (arith, before_few p can) in
-      let body : t ≡ both_numbers p = et ∙ rw (mid_len 2 (n + 2) s few, em, back n, en) (body_digits p can) in
-      let there : take (n + 2 - 2) (drop 2 (put_mid 2 (n + 2 - 2) s t)) ≡ t =
-      put_there 2 (n + 2) s t (omega arith) few (ap length body ∙ body_long p can ∙ sym en ∙ sym (back n)) in
-      let digit : 48 + x ≡ check_byte p = ap (λ (z : ℕ). 48 + z) (ex ∙ rw (es, there, body, en)) in
-      rw (put_is 2 (n + 2) s t (omega arith) few, body, digit) (stored (eqb p.last 90) s (both_numbers p) p.first p.second p.last (check_byte p) n long nine (body_long p can ∙ sym en))
-    where
-      back : (m : ℕ) → m + 2 - 2 ≡ m
-      back m = omega arith
+-- one part behind the other is one part
+put_long : (s t : List ℕ) (m : ℕ) → 2 ≤ m → m ≤ length s → length t ≡ m - 2 → length (put_mid 2 (m - 2) s t) ≡ length s
+put_long s t m two within long = ap length (put_is 2 m s t two within) ∙ simp (length-append, length-take, length-drop) (omega arith)
 
-module _ (s t : List ℕ) (p : Parts) (h : Shape) (m x sum : ℕ) (pre : (length s ≡ 13) × (can_write p ≡ true)) (eh : Looked h p.last) (em : m ≡ p.consignor * 10 ^ h.posting + p.posting) where
-  pub fill_is : t ≡ digits (length (take (h.consignor + h.posting + 2 - 2) (drop 2 s))) m
-      → sum ≡ weighted (drop (9 - (h.consignor + h.posting)) weights) (take (h.consignor + h.posting + 2 - 2) (drop 2 (put_mid 2 (h.consignor + h.posting + 2 - 2) s t)))
-      → x ≡ check_digit (sum % 11)
-      → set (set (set (set (set (put_mid 2 (h.consignor + h.posting + 2 - 2) s t) 0 p.first) 1 p.second) 11 67) (h.consignor + h.posting + 2) (48 + x)) 12 p.last
-      ≡ written p
-  fill_is et es ex = filled_at s t p (h.consignor + h.posting) m x sum pre.0 pre.1 (rw eh.0) (em ∙ rw eh.0) et es ex
+put_twice : (s t u : List ℕ) (m e : ℕ) → 2 ≤ m → m ≤ e → e ≤ length s → length t ≡ m - 2 → put_mid m (e - m) (put_mid 2 (m - 2) s t) u ≡ put_mid 2 (e - 2) s (t ++ u)
+put_twice s t u m e two more within long =
+    let front : take m (put_mid 2 (m - 2) s t) ≡ take 2 s ++ t = take-put_mid 2 (m - 2) s t m (omega arith) (omega arith) in
+    let back : drop e (put_mid 2 (m - 2) s t) ≡ drop e s = drop-put_mid 2 (m - 2) s t e (omega arith) (omega arith) long in
+    put_is m e (put_mid 2 (m - 2) s t) u more (omega (arith, put_long s t m two (omega arith) long))
+    ∙ rw (front, back) (append_assoc (take 2 s) t (u ++ drop e s) ∙ ap (λ (r : List ℕ). take 2 s ++ r) (sym (append_assoc t u (drop e s))))
+    ∙ sym (put_is 2 e s (t ++ u) (omega arith) within)
+
+module _ (s t u : List ℕ) (p : Parts) (h : Shape) (x : ℕ) (pre : (length s ≡ 13) × (can_write p ≡ true) × Row p.last (Some h)) where
+  abbrev m : ℕ
+  m = h.consignor + 2
+
+  abbrev e : ℕ
+  e = h.consignor + 2 + h.posting
+
+  abbrev after : List ℕ
+  after = put_mid m (e - m) (put_mid 2 (m - 2) s t) u
+
+  pub fill_is : t ≡ digits (length (take (m - 2) (drop 2 s))) p.consignor
+      → u ≡ digits (length (take (e - m) (drop m (put_mid 2 (m - 2) s t)))) p.posting
+      → x ≡ 48 + check_digit (weighted (weights_for (length (take (e - 2) (drop 2 after)))) (take (e - 2) (drop 2 after)) % 11)
+      → set (set (set (set (set after 0 p.first) 1 p.second) 11 67) e x) 12 p.last ≡ written p
+  unfolding written
+  fill_is et eu ex =
+      let n : ℕ = digits_before p.last in
+      let one : h.consignor ≡ consignor_digits p.last = rw pre.2.0 in
+      let two : h.posting ≡ posting_digits p.last = rw pre.2.0 in
+      let en : e ≡ n + 2 = omega arith in
+      let t_is : t ≡ digits (consignor_digits p.last) p.consignor = et ∙ ap (λ (k : ℕ). digits k p.consignor) (mid_len 2 m s (omega arith) ∙ omega arith) in
+      let long : length t ≡ m - 2 = ap length t_is ∙ length_digits (consignor_digits p.last) p.consignor ∙ omega arith in
+      let kept : length (put_mid 2 (m - 2) s t) ≡ length s = put_long s t m (omega arith) (omega arith) long in
+      let u_is : u ≡ digits (posting_digits p.last) p.posting = eu ∙ ap (λ (k : ℕ). digits k p.posting) (mid_len m e (put_mid 2 (m - 2) s t) (omega (arith, kept)) ∙ omega arith) in
+      let body : t ++ u ≡ both_numbers p = ap₂ {C = List ℕ} (λ a b. a ++ b) t_is u_is in
+      let twice : after ≡ put_mid 2 (e - 2) s (t ++ u) = put_twice s t u m e (omega arith) (omega arith) (omega arith) long in
+      let both_long : length (t ++ u) ≡ e - 2 = ap length body ∙ body_long p pre.1 ∙ omega arith in
+      let there : take (e - 2) (drop 2 after) ≡ both_numbers p = ap (λ (r : List ℕ). take (e - 2) (drop 2 r)) twice ∙ put_there 2 e s (t ++ u) (omega arith) (omega arith) both_long ∙ body in
+      let digit : x ≡ check_byte p = ex ∙ rw (there, body_long p pre.1) in
+      let placed : after ≡ take 2 s ++ (both_numbers p ++ drop e s) = twice ∙ put_is 2 e s (t ++ u) (omega arith) (omega arith) ∙ rw body in
+      rw (placed, digit, en) (stored (eqb p.last 90) s (both_numbers p) p.first p.second p.last (check_byte p) n pre.0 (before_is p pre.1) (body_long p pre.1))

@@ -1,13 +1,13 @@
 -- What the public calls promise.
 -- Assumes nothing.
-use Rattle.std.specs.Prelude.{ℕ, ◌+◌, ◌%◌, ◌^◌, List, [], ◌∷◌, ◌++◌, Bool, cond, ◌&&◌, ◌||◌, ◌≡◌, length, get_or, ltb, eqb}
+use Rattle.std.specs.Prelude.{ℕ, ◌+◌, ◌%◌, ◌^◌, List, [], ◌∷◌, ◌++◌, Bool, cond, ◌&&◌, ◌||◌, ◌≡◌, length, get_or, ltb, eqb, Result, Ok, Err}
 use Rattle.text.specs.declared.Answer.{Answer}
+use Rattle.text.specs.declared.Refusal.{Refusal}
+use Rattle.text.specs.declared.Refusal.TheVariants.{WrongIdentifier}
 use Rattle.text.specs.Answers.{answer, accepted, wrong_length}
 use Rattle.text.specs.Lists.{same_bytes}
 use Rattle.text.specs.Numbers.{digits}
 use Rattle.ident.specs.declared.Parts.{Parts}
-use Rattle.ident.specs.declared.Reading.{Reading}
-use Rattle.ident.specs.declared.Reading.TheVariants.{Right, Refused}
 use Rattle.ident.specs.Identifier.{right_prefix, last_of, consignor_digits, posting_digits, digits_before, consignor_of, posting_of, weights_for, weighted, check_digit, right_id}
 
 -- what is no right identifier: code 1, place 1
@@ -28,8 +28,8 @@ parts_of s = record {
   posting = posting_of s;
 }
 
-abbrev pub Read : List ℕ → Reading → Type 0
-Read s r = r ≡ cond (right_id s) (Right (parts_of s)) (Refused not_right)
+abbrev pub Read : List ℕ → Result Parts Refusal → Type 0
+Read s r = r ≡ cond (right_id s) (Ok (parts_of s)) (Err WrongIdentifier)
 
 -- ---- write
 -- consignor and posting number in their digits

@@ -1,6 +1,6 @@
 -- "The identifier, 13 bytes", in the paper's order. A byte is a number; places are counted from 0.
 -- Assumes nothing.
-use Rattle.std.specs.Prelude.{ℕ, ◌+◌, ◌-◌, ◌*◌, ◌%◌, List, [], ◌∷◌, ◌≡◌, refl, ◌⊎◌, Bool, cond, not, ◌&&◌, ◌||◌, length, get_or, drop, ltb, eqb}
+use Rattle.std.specs.Prelude.{ℕ, ◌+◌, ◌-◌, ◌*◌, ◌%◌, List, [], ◌∷◌, ◌≡◌, refl, ◌⊎◌, Bool, cond, not, ◌&&◌, ◌||◌, length, get_or, drop, ltb, eqb, ◌≤◌, Option, MatchOption}
 use Rattle.text.specs.Bytes.{is_capital, all_digits}
 use Rattle.text.specs.Lists.{part}
 use Rattle.text.specs.Numbers.{number_of}
@@ -26,6 +26,10 @@ shape_of l =
     (cond (eqb l 77 || eqb l 76) (shape 5 4)  -- M L
     (cond (eqb l 90) (shape 0 8)  -- Z
     (shape 0 0)))))
+
+-- what the table tells of a last byte: that no row has it, or the digits, of which there are eight or nine
+abbrev pub Row : ℕ → Option Shape → Type 0
+Row l o = MatchOption o (shape_of l ≡ shape 0 0) (λ h. (h ≡ shape_of l) × (h.consignor ≤ 5) × (8 ≤ h.consignor + h.posting) × (h.consignor + h.posting ≤ 9))
 
 abbrev pub consignor_digits : ℕ → ℕ
 consignor_digits l = (shape_of l).consignor

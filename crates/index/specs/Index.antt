@@ -1,7 +1,7 @@
 -- An index of a file's records by the 13 bytes that each has at one place: an identifier (from 0), or that of the main consignment (from 362).
 -- Records have 401 bytes. They are noted in a table of slots: 0, or one more than the place of a record.
 -- Assumes nothing.
-use Rattle.std.specs.Prelude.{ℕ, zero, suc, ◌+◌, ◌-◌, ◌*◌, ◌/◌, ◌%◌, Bool, cond, not, ◌&&◌, ◌||◌, ◌≡◌, List, length, get_or, set, take, drop, eqb, leb, ltb}
+use Rattle.std.specs.Prelude.{ℕ, zero, suc, ◌+◌, ◌-◌, ◌*◌, ◌/◌, ◌%◌, Bool, cond, not, ◌&&◌, ◌||◌, ◌≡◌, List, length, get_or, set, take, drop, eqb, leb, ltb, Option, Some, None}
 use Rattle.text.specs.Lists.{same_bytes}
 use Rattle.text.specs.Words.{word_of}
 
@@ -64,7 +64,12 @@ found table file from key = named_at table file from (slot_of table file from ke
 unfoldable pub noting : List ℕ → List ℕ → ℕ → ℕ → List ℕ
 noting table file from n = cond (has_key file from n && ltb n 65535) (set table (slot_of table file from (key_at file from n)) (n + 1)) table
 
+-- the number that a record's place has in these definitions: one more than it; 0 for none
+abbrev pub slot_number : Option ℕ → ℕ
+slot_number None = 0
+slot_number (Some i) = suc i
+
 -- `put` gives what was found before for the record's key, and leaves the table with the record noted
-pub record Put (table file : List ℕ) (from n r : ℕ) (after : List ℕ) : Type 0 where
-  pub before : r ≡ found table file from (key_at file from n)
+pub record Put (table file : List ℕ) (from n : ℕ) (r : Option ℕ) (after : List ℕ) : Type 0 where
+  pub before : slot_number r ≡ found table file from (key_at file from n)
   pub notes : after ≡ noting table file from n

@@ -1,2 +1,1 @@
 pub mod LongInputs
-pub mod Ways

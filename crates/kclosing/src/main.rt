@@ -9,67 +9,40 @@ ghost use Rattle.std.specs.Io.{ReadsAtMost};
 ghost use Rattle.posting.specs.Report.{under_text, longest_line, WholeLine};
 ghost use Rattle.closing.specs.Closing.{closing_answer};
 
-use posting::Reported;
-use std::io::{ErrorKind, Read};
+use std::io;
+use std::io::Read;
 use std::rt::Files;
-use std::{fs, io};
+use text::Refusal;
 
 // A loop has to end, and nothing says that an input does. None has so many blocks.
 const MOST: u64 = 1_000_000_000_000_000_000;
 
 // The line for what was read. There is room for every table and every line, so it is always the whole one.
-fn put_line(text: &[u8], file: &[u8], table: &mut [u32], line: &mut [u8]) -> Reported
+// The same four lines are in `kcheck`, by its report: a public function that takes a report would have to require that it may be called, and
+// the functions that print have no contract to state, which each public function has.
+fn put_line(text: &[u8], file: &[u8], table: &mut [u32], line: &mut [u8]) -> Result<usize, Refusal>
     requires { (16000 ≤ length table.old) × (longest_line ≤ length line.old) }
     ensures { WholeLine (under_text text.now (λ psc. closing_answer psc file.now)) result line.new }
 {
-    let read = psc::read(text, table);
-    let answer = read.answer;
-    if answer.code != 0 {
-        return posting::put_report(posting::table_refused(), line);
+    match psc::read(text, table) {
+        Ok(n) => closing::report(file, &table[..n], line),
+        Err(_) => posting::put_report(Err(posting::table_refused()), line),
     }
-    let n = read.entries;
-    closing::report(file, &table[..n], line)
 }
 
 fn print_report<R: Print>(rt: &R, text: &[u8], file: &[u8]) -> io::Result<()> {
     let mut table = [0u32; psc::MOST_ENTRIES];
     let mut line = [0u8; posting::LONGEST_LINE];
-    let reported = put_line(text, file, &mut table, &mut line);
-    let n = reported.length;
+    let n = put_line(text, file, &mut table, &mut line).unwrap();
     rt.write_all(&line[..n])
 }
 
-// ---- the table
-
-// Where there is no psc.txt, the table is empty, and so is its text.
-fn read_text<R: Files>(rt: &R, text: &mut [u8]) -> io::Result<usize>
-    ensures { ReadsAtMost result text.new }
-{
-    match fs::open(rt, "psc.txt") {
-        Ok(mut file) => streams::read_full(&mut file, text),
-        Err(e) => {
-            if e.kind() == ErrorKind::NotFound {
-                Ok(0)
-            } else {
-                Err(e)
-            }
-        },
-    }
-}
-
-// The words of a message without the number that std puts behind those of the system.
-fn words(message: &str) -> &str {
-    match message.split_once(" (os error ") {
-        Some((words, _)) => words,
-        None => message,
-    }
-}
-
 // Says on standard error what could not be read or written, and why. Where that cannot be said, nothing is.
+// Each program has its own: no contract can say what is said there, and each public function has a contract.
 fn tell<R: Eprint + AllocGlobal>(rt: &R, what: &str, error: io::Error) {
     let _ = match format!(in rt.alloc(); "{error}") {
         Ok(message) => {
-            let why = words(message.as_str());
+            let why = streams::words(message.as_str());
             eprintln!(rt; "kcheck: {what}: {why}")
         },
         Err(_) => eprintln!(rt; "kcheck: {what}: {error}"),
@@ -80,7 +53,8 @@ fn tell<R: Eprint + AllocGlobal>(rt: &R, what: &str, error: io::Error) {
 fn report_on<R: Files + Print + Eprint + AllocGlobal>(rt: &R, file: &[u8]) {
     // One byte more than the text of a table has, so that the program sees a longer one.
     let mut text = [0u8; psc::MOST_TEXT + 1];
-    match read_text(rt, &mut text) {
+    // Where there is no psc.txt, the table is empty, and so is its text.
+    match streams::read_file(rt, "psc.txt", &mut text) {
         Err(e) => tell(rt, "psc.txt", e),
         Ok(n) => {
             if let Err(e) = print_report(rt, &text[..n], file) {
@@ -94,13 +68,11 @@ fn report_on<R: Files + Print + Eprint + AllocGlobal>(rt: &R, file: &[u8]) {
 
 // Reads on, again and again into the same block, and gives how many bytes came when it was not filled any more.
 fn read_on<R: Read>(input: &mut R, block: &mut [u8]) -> io::Result<usize> {
-    let mut left = MOST;
-    while 0 < left {
+    for _ in 0..MOST {
         let n = streams::read_full(input, block)?;
         if n < block.len() {
             return Ok(n);
         }
-        left -= 1;
     }
     Ok(0)
 }

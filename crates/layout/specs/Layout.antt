@@ -1,8 +1,9 @@
 -- "The record, 399 bytes": its 26 widths, and the field that is asked for.
 -- Assumes nothing.
-use Rattle.std.specs.Prelude.{ℕ, ◌-◌, Bool, true, ◌&&◌, cond, ◌≡◌, refl, List, [], ◌∷◌, length, get_or, leb, eqb}
+use Rattle.std.specs.Prelude.{ℕ, ◌-◌, Bool, true, ◌&&◌, cond, ◌≡◌, refl, List, [], ◌∷◌, length, get_or, leb, eqb, Result, ⊤}
 use Rattle.text.specs.declared.Answer.{Answer}
-use Rattle.text.specs.Answers.{answer, accepted, wrong_length}
+use Rattle.text.specs.declared.Refusal.{Refusal}
+use Rattle.text.specs.Answers.{answer, accepted, wrong_length, answered}
 use Rattle.text.specs.Lists.{sum, joined}
 use Rattle.layout.specs.Widths.{starts_from, cut}
 
@@ -49,5 +50,5 @@ Width n r = r ≡ width_of n
 abbrev pub Field : List ℕ → ℕ → List ℕ → Type 0
 Field rec n f = f ≡ field_of rec n
 
-abbrev pub FieldAnswered : List ℕ → ℕ → Answer → Type 0
-FieldAnswered rec n r = r ≡ field_answer rec n
+abbrev pub FieldAnswered : List ℕ → ℕ → Result ⊤ Refusal → Type 0
+FieldAnswered rec n r = answered r ≡ field_answer rec n

@@ -5,7 +5,7 @@ ghost use Rattle.std.specs.Prelude.{◌≡◌, ◌-◌, ◌≤◌, length};
 ghost use Rattle.layout.specs.Widths.{cut};
 ghost use Rattle.layout.specs.Layout.{widths, is_field, Width, Field, FieldAnswered};
 
-use text::{ACCEPTED, Answer, WRONG_LENGTH};
+use text::Refusal;
 
 // The widths of the 26 fields, 399 bytes together.
 pub const WIDTHS: [usize; 26] = [
@@ -18,55 +18,48 @@ const STARTS: [usize; 26] = [
     352, 362, 375, 377, 379, 389,
 ];
 
-// There is no such field.
-const NO_FIELD: Answer = Answer {
-    code: 210,
-    place: 0,
-};
-
 fn is_field(n: usize) -> bool
     ensures { result ≡ is_field n }
 {
-    (1 <= n) & (n <= 26)
+    (1..=26).contains(&n)
 }
 
 // How wide field n is; 0 where there is no such field.
 pub fn width(n: usize) -> usize
     ensures { Width n result }
 {
-    if n < 1 {
-        return 0;
-    }
-    if n > 26 {
-        return 0;
-    }
-    let k = n - 1;
-    WIDTHS[k]
+    if is_field(n) { WIDTHS[n - 1] } else { 0 }
 }
 
 fn cut_out(rec: &[u8], n: usize) -> &[u8]
     requires { (length rec.now ≡ 399) × (1 ≤ n) × (n ≤ 26) }
     ensures { result.now ≡ cut widths rec.now (n - 1) }
 {
-    let k = n - 1;
-    let a = STARTS[k];
-    let e = a + WIDTHS[k];
-    &rec[a..e]
+    let start = STARTS[n - 1];
+    let end = start + WIDTHS[n - 1];
+    &rec[start..end]
 }
 
 // Field n as a part of the record: empty where the record has another length or no such field.
 pub fn field(rec: &[u8], n: usize) -> &[u8]
     ensures { Field rec.now n result.now }
 {
-    let there = (rec.len() == 399) & is_field(n);
-    if there { cut_out(rec, n) } else { &rec[..0] }
+    if rec.len() == 399 && is_field(n) {
+        cut_out(rec, n)
+    } else {
+        &rec[..0]
+    }
 }
 
-pub fn field_answer(rec: &[u8], n: usize) -> Answer
+// Whether the record has 399 bytes, and a field n.
+pub fn field_answer(rec: &[u8], n: usize) -> Result<(), Refusal>
     ensures { FieldAnswered rec.now n result }
 {
     if rec.len() != 399 {
-        return WRONG_LENGTH;
+        return Err(Refusal::WrongLength);
     }
-    if is_field(n) { ACCEPTED } else { NO_FIELD }
+    if !is_field(n) {
+        return Err(Refusal::Malformed(0));
+    }
+    Ok(())
 }

@@ -1,19 +1,16 @@
 -- What one record brings to the totals, and that totals of a file stay small.
 -- Assumes nothing.
-use Prim.Native.Nat.{ℕ, zero, suc, ◌+◌, ◌*◌, ◌-◌, ◌/◌, ◌^◌, ◌≤◌, ◌<◌}
+use Rattle.std.specs.Prelude.{Option, Some, None, unwrap_or}
+use Prim.Native.Nat.{ℕ, zero, suc, ◌+◌, ◌*◌, ◌^◌, ◌≤◌, ◌<◌}
 use mathlib.Core.Path.{◌≡◌, refl, sym, ap, ◌∙◌}
-use mathlib.Core.Bool.{Bool, true, false, cond, not}
+use mathlib.Core.Bool.{Bool, true, false, cond}
 use mathlib.Core.List.{List}
 use native.Mathlib.Omega.{arith}
-use borrow.Author.Tests.{lt-ltb, le-ltb, ltb-true, leb-true, leb-false, not-true, not-false}
-use lib.Dec.{leb}
-use lib.ListN.{length}
+use borrow.Author.Tests.{lt-ltb, le-ltb, ltb-true}
 use Rattle.layout.specs.Layout.{field_of}
 use Rattle.fields.specs.declared.amounts.Hellers.{Hellers}
-use Rattle.fields.specs.declared.amounts.Sum.{Sum}
-use Rattle.fields.specs.declared.amounts.Sum.TheVariants as Amounts
-use Rattle.fields.specs.declared.amounts.MoneyReading.{MoneyReading}
-use Rattle.fields.specs.declared.amounts.MoneyReading.TheVariants as Money
+use Rattle.fields.specs.declared.reading.Reading.TheVariants as Money
+use Rattle.fields.specs.Readings.{MoneyReading, value_in}
 use Rattle.fields.specs.declared.others.StatusReading.{StatusReading}
 use Rattle.fields.specs.declared.others.StatusReading.TheVariants as Status
 use Rattle.fields.specs.Amounts.{read_money}
@@ -21,10 +18,8 @@ use Rattle.fields.specs.Others.{read_status}
 use Rattle.fields.specs.Calls.{sum_of_hellers}
 use Rattle.fields.proofs.MoneyLaws.{money_exactly}
 use Rattle.posting.specs.declared.Totals.{Totals}
-use Rattle.posting.specs.declared.TotalsSum.{TotalsSum}
-use Rattle.posting.specs.declared.TotalsSum.TheVariants.{Total, TooLarge}
 use Rattle.posting.specs.Bounds.{Small}
-use Rattle.posting.specs.Calls.{fits, sum_of_totals, total_or}
+use Rattle.posting.specs.Calls.{fits, sum_of_totals}
 use Rattle.posting.specs.File.{totals, no_totals, amount_in, amount_of, brought_as, brought, plus_totals, with_record, totals_over, record_at}
 
 -- no amount has more than eleven digits
@@ -36,89 +31,77 @@ amount_small f = go (read_money f) refl
     go (Money.Value h) e = ((money_exactly f h.0).0 e).0
     go Money.Malformed e = omega arith
 
--- ---- fits
-pub fits_is : (a b : ℕ) → b < 2 ^ 64 → leb a (18446744073709551615 - b) ≡ fits (a + b)
-fits_is a b h = go (leb a (18446744073709551615 - b)) refl
-  where
-    go : (t : Bool) → leb a (18446744073709551615 - b) ≡ t → t ≡ fits (a + b)
-    go true e = let l = leb-true a (18446744073709551615 - b) e in sym (lt-ltb (a + b) (2 ^ 64) (omega arith))
-    go false e = let l = leb-false a (18446744073709551615 - b) e in sym (le-ltb (a + b) (2 ^ 64) (omega arith))
+-- totals that start from nothing
+pub no_totals_is : (t : Totals) → t.live ≡ 0 → t.cancelled ≡ 0 → t.cash.0 ≡ 0 → t.price.0 ≡ 0 → t ≡ no_totals
+no_totals_is t l c d p i = totals (l i) (c i) (d i) (p i)
 
-pub fits_below : (n : ℕ) (r : Bool) → r ≡ fits n → not r ≡ false → n < 2 ^ 64
-fits_below n r e h = ltb-true n (2 ^ 64) (sym e ∙ not-false r h)
+-- ---- a sum that fits, or not
+-- n is the sum, which fits
+abbrev Fits : ℕ → ℕ → Type 0
+Fits n sum = (sum < 2 ^ 64) × (n ≡ sum)
 
--- ---- the sum of two amounts, taken apart
-module _ (a b : Hellers) (r : Sum) (er : r ≡ sum_of_hellers a b) where
-  amounts_large : r ≡ Amounts.TooLarge → fits (a.0 + b.0) ≡ false
+fits_not : (n : ℕ) → (n < 2 ^ 64 → ⊥) → fits n ≡ false
+fits_not n h = le-ltb n (2 ^ 64) (omega (arith, h))
+
+-- of two amounts
+module _ (a b : Hellers) where
+  never : (x : Hellers) → None ≡ Some x → ⊥
+  never x q = let z : ◌≡◌ {A = ℕ} 0 1 = cc in omega arith
+
+  pub amounts_large : None ≡ sum_of_hellers a b → a.0 + b.0 < 2 ^ 64 → ⊥
   unfolding sum_of_hellers
-  amounts_large e = go (fits (a.0 + b.0)) (sym er ∙ e)
-    where
-      never : (x : Hellers) → Amounts.Total x ≡ Amounts.TooLarge → ⊥
-      never x q = let z : ◌≡◌ {A = ℕ} 0 1 = cc in omega arith
+  amounts_large e h = never (record { 0 = a.0 + b.0 }) (e ∙ rw (lt-ltb _ _ h))
 
-      go : (t : Bool) → cond t (Amounts.Total (record { 0 = a.0 + b.0 })) Amounts.TooLarge ≡ Amounts.TooLarge → t ≡ false
-      go true q = absurd (never _ q)
-      go false q = refl
-
-  amounts_fit : (c : Hellers) → r ≡ Amounts.Total c → (fits (a.0 + b.0) ≡ true) × (c ≡ record { 0 = a.0 + b.0 })
+  pub amounts_fit : (c : Hellers) → Some c ≡ sum_of_hellers a b → Fits c.0 (a.0 + b.0)
   unfolding sum_of_hellers
-  amounts_fit c e = go (fits (a.0 + b.0)) (sym er ∙ e)
+  amounts_fit c e = go (fits (a.0 + b.0)) refl e
     where
-      never : (x : Hellers) → Amounts.TooLarge ≡ Amounts.Total x → ⊥
-      never x q = let z : ◌≡◌ {A = ℕ} 0 1 = cc in omega arith
-
-      same : (x y : Hellers) → Amounts.Total x ≡ Amounts.Total y → y ≡ x
-      same x y q = cc
-
-      go : (t : Bool) → cond t (Amounts.Total (record { 0 = a.0 + b.0 })) Amounts.TooLarge ≡ Amounts.Total c → (t ≡ true) × (c ≡ record { 0 = a.0 + b.0 })
-      go true q = (refl, same _ c q)
-      go false q = absurd (never c q)
+      go : (t : Bool) → fits (a.0 + b.0) ≡ t → Some c ≡ cond t (Some (record { 0 = a.0 + b.0 })) None → Fits c.0 (a.0 + b.0)
+      go true q f = (ltb-true _ _ q, ap (λ (r : Option Hellers). (unwrap_or r c).0) f)
+      go false q f = absurd (never c (sym f))
 
 -- ---- Totals::plus: one fact more for each sum that fits
 module _ (s t : Totals) where
-  pub live_large : (r : Bool) → r ≡ fits (s.live + t.live) → not r ≡ true → TooLarge ≡ sum_of_totals s t
+  pub live_large : (s.live + t.live < 2 ^ 64 → ⊥) → None ≡ sum_of_totals s t
   unfolding sum_of_totals
-  live_large r e n = rw (← e, not-true r n)
+  live_large n = rw (fits_not _ n)
 
-  module _ (l : Bool) (el : l ≡ fits (s.live + t.live)) (nl : not l ≡ false) where
-    pub cancelled_large : (r : Bool) → r ≡ fits (s.cancelled + t.cancelled) → not r ≡ true → TooLarge ≡ sum_of_totals s t
+  module _ (l : ℕ) (fl : Fits l (s.live + t.live)) where
+    pub cancelled_large : (s.cancelled + t.cancelled < 2 ^ 64 → ⊥) → None ≡ sum_of_totals s t
     unfolding sum_of_totals
-    cancelled_large r e n = rw (← el, not-false l nl, ← e, not-true r n)
+    cancelled_large n = rw (lt-ltb _ _ fl.0, fits_not _ n)
 
-    module _ (k : Bool) (ek : k ≡ fits (s.cancelled + t.cancelled)) (nk : not k ≡ false) where
-      pub cash_large : (r : Sum) → r ≡ sum_of_hellers s.cash t.cash → r ≡ Amounts.TooLarge → TooLarge ≡ sum_of_totals s t
+    module _ (k : ℕ) (fk : Fits k (s.cancelled + t.cancelled)) where
+      pub cash_large : None ≡ sum_of_hellers s.cash t.cash → None ≡ sum_of_totals s t
       unfolding sum_of_totals
-      cash_large r e q = rw (← el, not-false l nl, ← ek, not-false k nk, amounts_large s.cash t.cash r e q)
+      cash_large e = rw (lt-ltb _ _ fl.0, lt-ltb _ _ fk.0, fits_not _ (amounts_large s.cash t.cash e))
 
-      module _ (d : Sum) (cash : Hellers) (ed : d ≡ sum_of_hellers s.cash t.cash) (qd : d ≡ Amounts.Total cash) where
-        pub price_large : (r : Sum) → r ≡ sum_of_hellers s.price t.price → r ≡ Amounts.TooLarge → TooLarge ≡ sum_of_totals s t
+      module _ (cash : Hellers) (ec : Some cash ≡ sum_of_hellers s.cash t.cash) where
+        pub price_large : None ≡ sum_of_hellers s.price t.price → None ≡ sum_of_totals s t
         unfolding sum_of_totals
-        price_large r e q = rw (← el, not-false l nl, ← ek, not-false k nk, (amounts_fit s.cash t.cash d ed cash qd).0, amounts_large s.price t.price r e q)
+        price_large e =
+            rw (lt-ltb _ _ fl.0, lt-ltb _ _ fk.0, lt-ltb _ _ (amounts_fit s.cash t.cash cash ec).0, fits_not _ (amounts_large s.price t.price e))
 
-        pub all_fit : (r : Sum) (price : Hellers) → r ≡ sum_of_hellers s.price t.price → r ≡ Amounts.Total price
-            → Total (record { live = s.live + t.live; cancelled = s.cancelled + t.cancelled; cash = cash; price = price }) ≡ sum_of_totals s t
+        pub all_fit : (price : Hellers) → Some price ≡ sum_of_hellers s.price t.price → Some (record { live = l; cancelled = k; cash = cash; price = price }) ≡ sum_of_totals s t
         unfolding sum_of_totals
-        all_fit r price e q =
-            let c = amounts_fit s.cash t.cash d ed cash qd in
-            let p = amounts_fit s.price t.price r e price q in
-            rw (← el, not-false l nl, ← ek, not-false k nk, c.0, p.0, c.1, p.1)
+        all_fit price e =
+            let fc = amounts_fit s.cash t.cash cash ec in
+            let fp = amounts_fit s.price t.price price e in
+            let sum : Some (plus_totals s t) ≡ sum_of_totals s t = rw (lt-ltb _ _ fl.0, lt-ltb _ _ fk.0, lt-ltb _ _ fc.0, lt-ltb _ _ fp.0) in
+            (λ i. Some (totals (fl.1 i) (fk.1 i) (fc.1 i) (fp.1 i))) ∙ sum
 
 -- ---- amount
-module _ (rec f : List ℕ) (n : ℕ) (m : MoneyReading) (ef : f ≡ field_of rec n) (em : m ≡ read_money f) where
-  read_is : m ≡ read_money (field_of rec n)
-  read_is = em ∙ ap read_money ef
+or_nothing : (m : MoneyReading) → unwrap_or (value_in m) (record { 0 = 0 }) ≡ record { 0 = amount_in m }
+or_nothing Money.Absent = refl
+or_nothing (Money.Value h) = refl
+or_nothing Money.Malformed = refl
 
-  pub amount_none : m ≡ Money.Absent → record { 0 = 0 } ≡ amount_of rec n
-  amount_none e = ap (λ (x : MoneyReading). record { 0 = amount_in x }) (sym e ∙ read_is)
-
-  pub amount_bad : m ≡ Money.Malformed → record { 0 = 0 } ≡ amount_of rec n
-  amount_bad e = ap (λ (x : MoneyReading). record { 0 = amount_in x }) (sym e ∙ read_is)
-
-  pub amount_is : (h : Hellers) → m ≡ Money.Value h → h ≡ amount_of rec n
-  amount_is h e = ap (λ (x : MoneyReading). record { 0 = amount_in x }) (sym e ∙ read_is)
-
-  pub amount_fits : (h : Hellers) → m ≡ Money.Value h → h.0 < 100000000000
-  amount_fits h e = rw (amount_is h e) (amount_small (field_of rec n))
+pub amount_is : (rec f : List ℕ) (n : ℕ) (m : MoneyReading) (v : Option Hellers) (h : Hellers) → f ≡ field_of rec n → m ≡ read_money f → v ≡ value_in m → h ≡ unwrap_or v (record { 0 = 0 })
+    → (h ≡ amount_of rec n) × (h.0 < 100000000000)
+amount_is rec f n m v h ef em ev eh =
+    let read : m ≡ read_money (field_of rec n) = em ∙ ap read_money ef in
+    let is : h ≡ amount_of rec n = eh ∙ ap (λ (x : Option Hellers). unwrap_or x (record { 0 = 0 })) (ev ∙ ap value_in read) ∙ or_nothing (read_money (field_of rec n)) in
+    (is, rw is (amount_small (field_of rec n)))
 
 -- ---- brought
 abbrev Amount : List ℕ → ℕ → Hellers → Type 0
@@ -176,15 +159,15 @@ small_so_far file n h =
     let b = totals_bounded file n in
     record { live = omega (arith, b.counts); cancelled = omega (arith, b.counts); cash = omega (arith, b.cash); price = omega (arith, b.price) }
 
-pub totals_small : (file : List ℕ) (n : ℕ) (t : Totals) → length file / 401 ≤ 999 → n < length file / 401 → t ≡ totals_over file n → Small t
-totals_small file n t l h e = rw e (small_so_far file n (omega arith))
+pub totals_small : (file : List ℕ) (n : ℕ) (t : Totals) → n < 1000 → t ≡ totals_over file n → Small t
+totals_small file n t h e = rw e (small_so_far file n h)
 
-pub small_sum : (t b r : Totals) (s : TotalsSum) → Small t → Light b → s ≡ sum_of_totals t b → r ≡ total_or s t → r ≡ plus_totals t b
+pub small_sum : (t b r : Totals) (s : Option Totals) → Small t → Light b → s ≡ sum_of_totals t b → r ≡ unwrap_or s t → r ≡ plus_totals t b
 unfolding sum_of_totals
 small_sum t b r s small l es er =
-    let fit : sum_of_totals t b ≡ Total (plus_totals t b) =
+    let fit : sum_of_totals t b ≡ Some (plus_totals t b) =
     rw (lt-ltb (t.live + b.live) (2 ^ 64) (omega (arith, small.live, l.counts)), lt-ltb (t.cancelled + b.cancelled) (2 ^ 64) (omega (arith, small.cancelled, l.counts)), lt-ltb (t.cash.0 + b.cash.0) (2 ^ 64) (omega (arith, small.cash, l.cash)), lt-ltb (t.price.0 + b.price.0) (2 ^ 64) (omega (arith, small.price, l.price))) in
-    er ∙ ap (λ (x : TotalsSum). total_or x t) (es ∙ fit)
+    er ∙ ap (λ (x : Option Totals). unwrap_or x t) (es ∙ fit)
 
-pub small_with : (t b r : Totals) (s : TotalsSum) (rec : List ℕ) → Small t → b ≡ brought rec → s ≡ sum_of_totals t b → r ≡ total_or s t → r ≡ with_record t rec
+pub small_with : (t b r : Totals) (s : Option Totals) (rec : List ℕ) → Small t → b ≡ brought rec → s ≡ sum_of_totals t b → r ≡ unwrap_or s t → r ≡ with_record t rec
 small_with t b r s rec small eb es er = small_sum t b r s small (rw eb (brought_light rec)) es er ∙ ap (plus_totals t) eb

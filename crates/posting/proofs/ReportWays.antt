@@ -1,19 +1,21 @@
 -- The line of seven numbers: each turn of the loops that count it and put it, and each way out of the calls.
 -- Assumes nothing.
-use Prim.Native.Nat.{ℕ, suc, ◌+◌, ◌-◌, ◌*◌, ◌≤◌, ◌<◌}
+use Rattle.std.proofs.Common.{rules, Result, Ok, Err}
+use Rattle.std.specs.List.{sum_by}
+use Rattle.std.proofs.lemmas.List.Sums.{sum_by-cons}
+use Prim.Native.Nat.{ℕ, ◌+◌, ◌-◌, ◌*◌, ◌≤◌, ◌<◌}
 use mathlib.Core.Path.{◌≡◌, refl, sym, ap, ◌∙◌}
 use mathlib.Core.Bool.{Bool, true, false, not}
 use mathlib.Core.List.{List, [], ◌∷◌, ◌++◌, append_assoc}
 use native.Mathlib.Nat.{add_assoc, add-zero}
 use native.Mathlib.Numerals.{add-one}
 use native.Mathlib.Omega.{arith}
-use borrow.Author.Tests.{lt-ltb, le-ltb, le-leb, lt-leb, not-true, not-false}
+use borrow.Author.Tests.{lt-ltb, le-ltb, le-leb, not-true, not-false}
 use borrow.Rule.Slice.PartMut.{put_mid}
 use lib.Dec.{leb}
 use lib.ListN.{length, get_or, take, drop, set, length-append, length-take, length-drop, take-append-drop}
 use lib.Seq.{take_at, take-append_seam, drop_at, set_split, drop-drop, length-take-le}
-use Rattle.text.specs.Answers.{answer, accepted}
-use Rattle.text.specs.Bytes.{every}
+use Rattle.text.specs.declared.Refusal.{Refusal}
 use Rattle.text.specs.Lists.{overlay}
 use Rattle.text.specs.Numbers.{digits, decimal_places, decimal_places_up_to, decimal}
 use Rattle.text.specs.Texts.{bytes}
@@ -21,14 +23,11 @@ use Rattle.text.proofs.Lists.{step, ended}
 use Rattle.text.proofs.Numbers.{length_digits, digits_put}
 use Rattle.text.proofs.Decimals.{decimal_places_within}
 use Rattle.psc.specs.Table.{rises_from, right_table}
-use Rattle.psc.specs.declared.Reading.{Reading}
 use Rattle.psc.specs.Search.{found}
 use Rattle.psc.specs.Calls.{TableRead}
 use Rattle.psc.proofs.SearchLaws.{found_is_holds}
 use Rattle.psc.proofs.ReadLaws.{read_refused, read_right, read_front}
-use Rattle.posting.specs.declared.FileAnswer.{FileAnswer}
-use Rattle.posting.specs.declared.Reported.{Reported}
-use Rattle.posting.specs.File.{totals_over, break_from, file_answer, refused, table_refused}
+use Rattle.posting.specs.File.{FileAnswer, totals_over, break_from, file_answer, refused, table_refused}
 use Rattle.posting.specs.Report.{numbers_of, behind, line, report_of, Report, longest_line, WholeLine, input_answer, under_text}
 
 -- ---- one number on
@@ -41,25 +40,20 @@ unfolding line
 line_ended ns i h = rw (ended ns i h)
 
 -- ---- line_length
-module _ (ns : List ℕ) (i c r : ℕ) (known : c + length (line (drop i ns)) ≡ r) where
-  pub count_on : (w : ℕ) → i < length ns → (w ≡ decimal_places (get_or ns i 0)) × ((1 ≤ w) × (w ≤ 20)) → c + (w + 1) + length (line (drop (i + 1) ns)) ≡ r
-  count_on w h e =
-      let n : ℕ = get_or ns i 0 in
-      let here : length (line (drop i ns)) ≡ w + suc (length (line (drop (i + 1) ns))) =
-      rw (line_step ns i h, length-append (decimal n) (behind (drop (i + 1) ns) ∷ line (drop (i + 1) ns)), length_digits (decimal_places n) n, ← e.0) in
-      omega arith
+-- how many bytes one number has, with the byte behind it
+abbrev pub width : ℕ → ℕ
+width n = decimal_places n + 1
 
-  pub count_ends : length ns ≤ i → c ≡ r
-  count_ends h =
-      let none : length (line (drop i ns)) ≡ 0 = rw (line_ended ns i h) in
-      omega arith
+pub line_widths : (ns : List ℕ) → sum_by width ns ≡ length (line ns)
+unfolding line
+line_widths [] = refl
+line_widths (n ∷ ns) =
+    sum_by-cons width n ns
+    ∙ omega (arith, line_widths ns, length-append (decimal n) (behind ns ∷ line ns), length_digits (decimal_places n) n)
 
 -- ---- the byte behind
 pub behind_more : (ns : List ℕ) (i : ℕ) → i + 1 < length ns → 32 ≡ behind (drop (i + 1) ns)
 behind_more ns i h = rw (step ns (i + 1) h)
-
-pub behind_last : (ns : List ℕ) (i : ℕ) → length ns ≤ i + 1 → 10 ≡ behind (drop (i + 1) ns)
-behind_last ns i h = rw (ended ns (i + 1) h)
 
 -- ---- texts put into a list
 pub length_overlay : (s p : List ℕ) (a : ℕ) → a + length p ≤ length s → length (overlay s a p) ≡ length s
@@ -131,22 +125,8 @@ module _ (ns : List ℕ) (i a : ℕ) (o : List ℕ) (h : i < length ns) (room : 
 pub put_done : (ns o : List ℕ) (i a : ℕ) (r : List ℕ) → length ns ≤ i → overlay o a (line (drop i ns)) ≡ r → o ≡ r
 put_done ns o i a r h e = sym (overlay_none o a) ∙ (rw (line_ended ns i h) at e)
 
--- ---- put_report
-module _ (a : FileAnswer) (ns s : List ℕ) (n : ℕ) (en : ns ≡ numbers_of a) (el : n ≡ length (line ns)) where
-  size : n ≡ length (report_of a)
-  size = el ∙ ap (λ (l : List ℕ). length (line l)) en
-
-  pub report_short : length s < n → Report a s (record { answer = answer 236 0; length = 0 }) s
-  report_short h =
-      let t : leb (length (report_of a)) (length s) ≡ false = lt-leb (length (report_of a)) (length s) (omega (arith, size)) in
-      record { answers = rw t; counts = rw t; bytes = rw t }
-
-  pub report_put : (s' : List ℕ) → n ≤ length s → s' ≡ overlay s 0 (line ns) → Report a s (record { answer = accepted; length = n }) s'
-  report_put s' h e =
-      let t : leb (length (report_of a)) (length s) ≡ true = le-leb (length (report_of a)) (length s) (omega (arith, size)) in
-      record { answers = rw t; counts = rw t size; bytes = rw t (e ∙ ap (λ (l : List ℕ). overlay s 0 (line l)) en) }
-
-pub report_of_lem : (a a' : FileAnswer) (s s' : List ℕ) (r : Reported) → a' ≡ a → Report a' s r s' → Report a s r s'
+-- ---- the line for another answer that is the same
+pub report_of_lem : (a a' : FileAnswer) (s s' : List ℕ) (r : Result ℕ Refusal) → a' ≡ a → Report a' s r s' → Report a s r s'
 report_of_lem a a' s s' r e p = rw e at p
 
 -- ---- the line fits
@@ -159,29 +139,31 @@ line_at_most (n ∷ ns) =
 pub report_fits : (a : FileAnswer) → length (report_of a) ≤ longest_line
 report_fits a = line_at_most (numbers_of a)
 
-pub whole_line : (a : FileAnswer) (s t : List ℕ) (r : Reported) → longest_line ≤ length s → Report a s r t → WholeLine a r t
+pub whole_line : (a : FileAnswer) (s t : List ℕ) (r : Result ℕ Refusal) → longest_line ≤ length s → Report a s r t → WholeLine a r t
 whole_line a s t r room p =
     let fits : leb (length (report_of a)) (length s) ≡ true = le-leb (length (report_of a)) (length s) (omega (arith, report_fits a)) in
-    let count : r.length ≡ length (report_of a) = rw fits at p.counts in
     let line_is : t ≡ overlay s 0 (report_of a) = rw fits at p.bytes in
-    record { answers = rw fits at p.answers; counts = count; bytes = rw (count, line_is) (take-append_seam (report_of a) (drop (0 + length (report_of a)) s)) }
+    record { answers = rw fits at p.answers; bytes = rw line_is (take-append_seam (report_of a) (drop (0 + length (report_of a)) s)) }
 
--- what a caller needs to take it off the buffer's front
-pub line_front : (a : FileAnswer) (t : List ℕ) (r : Reported) → WholeLine a r t → r.length ≡ length (take r.length t)
-line_front a t r w = w.counts ∙ sym (ap length w.bytes)
+-- what a caller needs to take it off the buffer's front: its length is the one that is given
+pub line_counts : (a : FileAnswer) (t : List ℕ) (r : Result ℕ Refusal) (n : ℕ) → WholeLine a r t → r ≡ Ok n → n ≡ length (report_of a)
+line_counts a t r n w e = search (rules, w.answers, e)
 
-pub line_within : (a : FileAnswer) (t : List ℕ) (r : Reported) → WholeLine a r t → r.length ≤ length t
-line_within a t r w = omega (arith, line_front a t r w, length-take r.length t)
+pub line_front : (a : FileAnswer) (t : List ℕ) (r : Result ℕ Refusal) (n : ℕ) → WholeLine a r t → r ≡ Ok n → take n t ≡ report_of a
+line_front a t r n w e = rw (line_counts a t r n w e) w.bytes
+
+pub line_within : (a : FileAnswer) (t : List ℕ) (r : Result ℕ Refusal) (n : ℕ) → WholeLine a r t → r ≡ Ok n → n ≤ length t
+line_within a t r n w e = omega (arith, line_counts a t r n w e, ap length w.bytes, length-take (length (report_of a)) t)
 
 -- ---- the line under a table that is given as text, of any answer by a table: a program reads it into a lent one of enough places
-module _ (answer : List ℕ → FileAnswer) (text before table : List ℕ) (read : Reading) (told : TableRead text before read table) (line line' : List ℕ) (r : Reported)
+module _ (answer : List ℕ → FileAnswer) (text before table : List ℕ) (read : Result ℕ Refusal) (told : TableRead text before read table) (line line' : List ℕ) (r : Result ℕ Refusal)
     (room : (16000 ≤ length before) × (longest_line ≤ length line)) where
-  pub text_refused : (a : FileAnswer) → (read.answer.code ≡ 0 → ⊥) → a ≡ table_refused → Report a line r line' → WholeLine (under_text text answer) r line'
-  text_refused a n e p = rw (read_refused text before read table told room.0 n, ← e) (whole_line a line line' r room.1 p)
+  pub text_refused : (a : FileAnswer) (e : Refusal) → read ≡ Err e → a ≡ table_refused → Report a line r line' → WholeLine (under_text text answer) r line'
+  text_refused a e q s p = rw (read_refused text before read table told room.0 e q, ← s) (whole_line a line line' r room.1 p)
 
-  pub text_reported : read.answer.code ≡ 0 → Report (answer (take read.entries table)) line r line' → WholeLine (under_text text answer) r line'
-  text_reported z p =
-      rw (read_right text before read table told room.0 z, ← read_front text before read table told room.0 z) (whole_line _ line line' r room.1 p)
+  pub text_reported : (n : ℕ) → read ≡ Ok n → Report (answer (take n table)) line r line' → WholeLine (under_text text answer) r line'
+  text_reported n q p =
+      rw (read_right text before read table told room.0 n q, ← read_front text before read table told room.0 n q) (whole_line _ line line' r room.1 p)
 
 -- ---- check_input
 pub input_wrong_table : (psc input : List ℕ) (b : Bool) (r : FileAnswer) → b ≡ right_table psc → not b ≡ true → r ≡ table_refused → r ≡ input_answer psc input
@@ -202,11 +184,11 @@ module _ (psc input : List ℕ) (b : Bool) (r : FileAnswer) (e : b ≡ right_tab
 
 -- ---- the whole outputs that the paper gives
 pub no_input : report_of (input_answer [] []) ≡ bytes "0 0 0 0 0 0 0" ++ 10 ∷ []
-unfolding rises_from every right_table input_answer file_answer break_from totals_over line digits decimal_places_up_to bytes
+unfolding rises_from right_table input_answer file_answer break_from totals_over line digits decimal_places_up_to bytes
 no_input = refl
 
 pub one_byte : report_of (input_answer [] (65 ∷ [])) ≡ bytes "211 0 0 0 0 0 0" ++ 10 ∷ []
-unfolding rises_from every right_table input_answer file_answer line digits decimal_places_up_to bytes
+unfolding rises_from right_table input_answer file_answer line digits decimal_places_up_to bytes
 one_byte = refl
 
 pub long_input : (psc input : List ℕ) → right_table psc ≡ true → 64160 < length input → report_of (input_answer psc input) ≡ bytes "213 0 0 0 0 0 0" ++ 10 ∷ []

@@ -2,43 +2,59 @@
 -- Assumes nothing.
 use Prim.Native.Nat.{ℕ, zero, suc, ◌+◌, ◌-◌, ◌*◌, ◌/◌, ◌%◌, ◌≤◌, ◌<◌}
 use mathlib.Core.Path.{◌≡◌, refl, sym, ap, ◌∙◌}
-use mathlib.Core.Bool.{Bool, true, false, cond, not, ◌&&◌, ◌||◌}
-use mathlib.Core.List.{List}
-use native.Mathlib.Nat.{add-zero, add-sub_cancel_left, sub-zero}
+use mathlib.Core.Bool.{Bool, true, false, cond, not, ◌||◌}
+use mathlib.Core.List.{List, []}
+use native.Mathlib.Nat.{add-sub_cancel_left, add-zero, sub-zero, zero-mul}
 use native.Mathlib.Numerals.{add-one}
 use native.Mathlib.Omega.{arith}
-use borrow.Author.Tests.{eq-eqb, ne_eqb, le-leb, lt-leb, not-true, not-false}
+use borrow.Author.Tests.{eq-eqb, ne_eqb, eqb-false, le-leb, lt-leb, not-true, not-false}
 use lib.Dec.{eqb}
 use lib.ListN.{length, get_or, take, drop}
+use lib.Seq.{take-take, get_or-take, get_or-drop, drop-drop}
+use Rattle.std.specs.Prelude.{Result, Ok, Err, Option, None, Some, is_some}
+use Rattle.std.specs.Bool.{⊤}
+use Rattle.std.specs.Result.{result_unwrap_or}
+use Rattle.std.specs.Simd.{first_chunks}
 use Rattle.text.specs.declared.Answer.{Answer}
-use Rattle.text.specs.Answers.{answer, accepted, or_else}
+use Rattle.text.specs.declared.Refusal.{Refusal}
+use Rattle.text.specs.Answers.{answer, accepted, answer_of, answered, or_else}
+use Rattle.text.proofs.Refusals.{refuses, not_accepted}
 use Rattle.text.specs.Lists.{same_bytes}
 use Rattle.psc.specs.Table.{right_table, Known}
 use Rattle.psc.specs.Search.{found}
 use Rattle.psc.proofs.SearchLaws.{found_is_holds}
 use Rattle.record.specs.Rules.{in_file, record_answer}
 use Rattle.ident.specs.declared.consignor.Consignor.{Consignor}
-use Rattle.ident.specs.declared.consignor.Consignor.TheVariants.{Nobody}
 use Rattle.ident.specs.Consignor.{another, or_named, first_named}
-use Rattle.record.specs.declared.RecordCheck.{RecordCheck}
-use Rattle.record.specs.Consignors.{with_consignor, strays}
+use Rattle.record.specs.Consignors.{consignor_of, strays}
 use Rattle.record.proofs.Consignors.{first_suffices, one_none, one_more_lem, first_more}
-use Rattle.posting.specs.declared.FileAnswer.{FileAnswer}
-use Rattle.posting.specs.declared.Line.{Line}
 use Rattle.posting.specs.declared.Totals.{Totals}
-use Rattle.index.specs.Index.{key_at, seek, Put}
+use Rattle.index.specs.Index.{key_at, seek, slot_number, Put}
 use Rattle.index.specs.Laws.{Indexed}
 use Rattle.index.proofs.Keys.{key_of_record}
 use Rattle.index.proofs.Slots.{indexed_more, length_noting}
-use Rattle.posting.specs.Slots.{RoomFor, NowNoted, Seen, LineAnswered, ToCheck}
-use Rattle.posting.specs.File.{up_to, record_at, records, id_at, line_ends, repeats, line_answer, no_totals, with_record, totals_over, refused, passed, line_or, break_from, records_in, file_answer, table_refused, file_check}
+use Rattle.posting.specs.Records.{line_at}
+use Rattle.posting.specs.Slots.{RoomFor, NowNoted, Seen, LineAnswered, ToCheck, HasRoom}
+use Rattle.posting.specs.File.{FileAnswer, up_to, record_at, records, id_at, line_ends, repeats, line_answer, no_totals, with_record, totals_over, refused, passed, line_or, break_from, records_in, file_answer, table_refused, file_check}
 
-pub refused_is : (c n p : ℕ) (t : Totals) → t ≡ no_totals → record { code = c; number = n; place = p; totals = t } ≡ refused c n p
-refused_is c n p t e = rw e
+-- ---- line i of a file: record i is its first 399 bytes, and two bytes are its end
+module _ (file : List ℕ) (i : ℕ) (line : List ℕ) (el : line ≡ line_at file i) where
+  pub record_in : take 399 line ≡ record_at file i
+  record_in = ap (take 399) el ∙ take-take 399 401 (drop (i * 401) file) (omega arith)
 
--- k bytes from the start of record i
-pub from_start : (file : List ℕ) (i k : ℕ) → take (i * 401 + k - i * 401) (drop (i * 401) file) ≡ take k (drop (i * 401) file)
-from_start file i k = rw add-sub_cancel_left
+  byte_in : (j : ℕ) → j < 401 → get_or line j 0 ≡ get_or file (i * 401 + j) 0
+  byte_in j h = ap (λ (x : List ℕ). get_or x j 0) el ∙ get_or-take 401 (drop (i * 401) file) j 0 h ∙ get_or-drop (i * 401) file j 0
+
+  pub end_in : line_ends file i ≡ line_ends line 0
+  end_in = rw (byte_in 399 (omega arith), byte_in 400 (omega arith))
+
+-- the lines of a file are its chunks of 401 bytes
+pub nth_chunk : (n k i : ℕ) (xs : List ℕ) → i < k → get_or (first_chunks n k xs) i [] ≡ take n (drop (i * n) xs)
+nth_chunk n zero i xs h = absurd (omega (arith, h))
+nth_chunk n (suc k) zero xs h = ap (λ (a : ℕ). take n (drop a xs)) (sym (zero-mul n))
+nth_chunk n (suc k) (suc i) xs h =
+    nth_chunk n k i (drop n xs) (omega arith)
+    ∙ ap (take n) (drop-drop (i * n) n xs ∙ ap (λ (a : ℕ). drop a xs) (omega arith))
 
 -- ---- repeated: an earlier record has the identifier where the index finds one
 same_key : (file : List ℕ) (i n : ℕ) → same_bytes (id_at file n) (id_at file i) ≡ same_bytes (key_at file 0 n) (key_at file 0 i)
@@ -53,67 +69,93 @@ repeats_seek file i (suc n) = rw (repeats_seek file i n, same_key file i n) (go 
     go true = rw (ne_eqb (suc n) 0 (λ e. omega arith))
     go false = refl
 
-module _ (file : List ℕ) (i : ℕ) (table : List ℕ) (t : ℕ) (after : List ℕ) (put : Put table file 0 i t after) (room : RoomFor file i table) where
-  pub repeated_is : not (eqb t 0) ≡ repeats file i i
-  repeated_is = rw (put.before, room.noted.finds (key_at file 0 i)) (sym (repeats_seek file i i))
+-- a place is there where its number is not 0
+some_number : (r : Option ℕ) → is_some r ≡ not (eqb (slot_number r) 0)
+some_number None = refl
+some_number (Some i) = rw (ne_eqb (suc i) 0 (λ e. omega arith))
 
-  pub now_noted : i < 1000 → i * 401 + 401 ≤ length file → NowNoted file i table after
-  now_noted low whole =
+module _ (file : List ℕ) (i : ℕ) (table : List ℕ) (r : Option ℕ) (after : List ℕ) (put : Put table file 0 i r after) (room : RoomFor file i table) where
+  pub repeated_is : (b : Bool) → b ≡ is_some r → b ≡ repeats file i i
+  repeated_is b e = e ∙ some_number r ∙ rw (put.before, room.noted.finds (key_at file 0 i)) (sym (repeats_seek file i i))
+
+  pub now_noted : NowNoted file i table after
+  now_noted =
       rw put.notes
       record {
-        noted = indexed_more file 0 i table room.noted room.room (omega arith) (key_of_record file 0 i (omega arith) whole);
+        noted = indexed_more file 0 i table room.noted room.room (omega (arith, room.few)) (key_of_record file 0 i (omega arith) room.whole);
         long = length_noting table file 0 i;
       }
 
 -- ---- line_answer
-module _ (known : Known) (file : List ℕ) (i : ℕ) where
-  pub line_open : not (eqb (get_or file (i * 401 + 399) 0) 13 && eqb (get_or file (i * 401 + 400) 0) 10) ≡ true → answer 212 0 ≡ line_answer known file i
+module _ (known : Known) (file : List ℕ) (i : ℕ) (line : List ℕ) (el : line ≡ line_at file i) where
+  -- its end is wrong
+  pub line_open : (b : Bool) → b ≡ line_ends line 0 → b ≡ false → answer 212 0 ≡ line_answer known file i
   unfolding line_answer
-  line_open n = rw (not-true (line_ends file i) n)
+  line_open b e n =
+      let open-end : line_ends file i ≡ false = end_in file i line el ∙ sym e ∙ n in
+      rw open-end
 
-  module _ (ended : not (eqb (get_or file (i * 401 + 399) 0) 13 && eqb (get_or file (i * 401 + 400) 0) 10) ≡ false) (k : RecordCheck)
-      (ek : k ≡ with_consignor (record_answer (in_file known) (take (i * 401 + 399 - i * 401) (drop (i * 401) file))) (take (i * 401 + 399 - i * 401) (drop (i * 401) file))) where
-    checked_here : k ≡ with_consignor (record_answer (in_file known) (record_at file i)) (record_at file i)
-    checked_here = ek ∙ rw (from_start file i 399)
+  module _ (f : Bool) (ef : f ≡ line_ends line 0) (ended : f ≡ true) where
+    ends : line_ends file i ≡ true
+    ends = end_in file i line el ∙ sym ef ∙ ended
 
-    here : record_answer (in_file known) (record_at file i) ≡ k.answer
-    here = sym (ap (λ (x : RecordCheck). x.answer) checked_here)
+    -- the record breaks its table, or else what comes behind
+    module _ (a : Result ⊤ Refusal) (ea : answered a ≡ record_answer (in_file known) (take 399 line)) where
+      judged : record_answer (in_file known) (record_at file i) ≡ answered a
+      judged = ap (record_answer (in_file known)) (sym (record_in file i line el)) ∙ sym ea
 
-    pub line_breaks : (k.answer.code ≡ 0 → ⊥) → k.answer ≡ line_answer known file i
-    unfolding line_answer or_else
-    line_breaks n = rw (not-false (line_ends file i) ended, here, ne_eqb k.answer.code 0 n)
-
-    module _ (b : Bool) (z : k.answer.code ≡ 0) (e : b ≡ repeats file i i) where
-      pub line_repeats : b ≡ true → answer 2 1 ≡ line_answer known file i
+      pub line_breaks : (e : Refusal) → a ≡ Err e → answer_of e ≡ line_answer known file i
       unfolding line_answer or_else
-      line_repeats t = rw (not-false (line_ends file i) ended, here, eq-eqb k.answer.code 0 z, ← e, t)
+      line_breaks e q =
+          let refused : record_answer (in_file known) (record_at file i) ≡ answer_of e = judged ∙ ap answered q in
+          rw (ends, refused, refuses e)
 
-      -- the first consignor named suffices
-      module _ (t : b ≡ false) (seen : Consignor) (sees : Seen file i seen) (w : Bool) (ew : w ≡ another seen k.consignor) where
-        strays_here : strays (records file i) (record_at file i) ≡ w
-        strays_here =
-            first_suffices (records file i) (record_at file i) sees.one
-            ∙ rw (← sees.first, ← ap (λ (x : RecordCheck). x.consignor) checked_here) (sym ew)
+      module _ (x : ⊤) (q : a ≡ Ok x) (b : Bool) (e : b ≡ repeats file i i) where
+        passed_table : record_answer (in_file known) (record_at file i) ≡ accepted
+        passed_table = judged ∙ ap answered q
 
-        pub line_strays : w ≡ true → answer 241 1 ≡ line_answer known file i
+        pub line_repeats : b ≡ true → answer 2 1 ≡ line_answer known file i
         unfolding line_answer or_else
-        line_strays q = rw (not-false (line_ends file i) ended, here, eq-eqb k.answer.code 0 z, ← e, t, strays_here, q)
+        line_repeats t = rw (ends, passed_table, ← e, t)
 
-        pub line_passes : w ≡ false → accepted ≡ line_answer known file i
-        unfolding line_answer or_else
-        line_passes q = rw (not-false (line_ends file i) ended, here, eq-eqb k.answer.code 0 z, ← e, t, strays_here, q)
+        -- the first consignor named suffices
+        module _ (t : b ≡ false) (seen c : Option Consignor) (sees : Seen file i seen) (ec : c ≡ consignor_of (take 399 line)) (w : Bool) (ew : w ≡ another seen c) where
+          named_here : c ≡ consignor_of (record_at file i)
+          named_here = ec ∙ ap consignor_of (record_in file i line el)
 
-        pub line_seen : w ≡ false → (n : Consignor) → n ≡ or_named seen k.consignor → Seen file (i + 1) n
-        unfolding up_to
-        line_seen q n en =
-            rw (add-one i)
-            record {
-              one = one_more_lem (records file i) (record_at file i) sees.one (strays_here ∙ q);
-              first =
-                  en
-                  ∙ rw (sees.first, ap (λ (x : RecordCheck). x.consignor) checked_here)
-                  (sym (first_more (records file i) (record_at file i)));
-            }
+          strays_here : strays (records file i) (record_at file i) ≡ w
+          strays_here =
+              first_suffices (records file i) (record_at file i) sees.one
+              ∙ rw (← sees.first, ← named_here) (sym ew)
+
+          pub line_strays : w ≡ true → answer 241 1 ≡ line_answer known file i
+          unfolding line_answer or_else
+          line_strays h = rw (ends, passed_table, ← e, t, strays_here, h)
+
+          pub line_passes : w ≡ false → accepted ≡ line_answer known file i
+          unfolding line_answer or_else
+          line_passes h = rw (ends, passed_table, ← e, t, strays_here, h)
+
+          pub line_seen : w ≡ false → (n : Option Consignor) → n ≡ or_named seen c → Seen file (i + 1) n
+          unfolding up_to
+          line_seen h n en =
+              rw (add-one i)
+              record {
+                one = one_more_lem (records file i) (record_at file i) sees.one (strays_here ∙ h);
+                first = en ∙ rw (sees.first, named_here) (sym (first_more (records file i) (record_at file i)));
+              }
+
+-- what such an answer promises: one that refuses, and one that accepts
+pub line_refused : (known : Known) (file : List ℕ) (i : ℕ) (table after : List ℕ) (e : Refusal) (r : Result (Option Consignor) Refusal) → r ≡ Err e → answer_of e ≡ line_answer known file i → LineAnswered known file i table after r
+line_refused known file i table after e r q a = record { answers = ap answered q ∙ a; notes = λ c z. absurd (never c z); sees = λ c z. absurd (never c z) }
+  where
+    never : (c : Option Consignor) → r ≡ Ok c → ⊥
+    never c z = not_accepted e (sym (ap answered z) ∙ ap answered q)
+
+pub line_taken : (known : Known) (file : List ℕ) (i : ℕ) (table after : List ℕ) (n : Option Consignor) → accepted ≡ line_answer known file i → NowNoted file i table after → Seen file (i + 1) n
+    → LineAnswered known file i table after (Ok n)
+line_taken known file i table after n a noted sees =
+    record { answers = a; notes = λ c z. noted; sees = λ c z. rw (ap (λ (r : Result (Option Consignor) Refusal). result_unwrap_or r n) z) at sees }
 
 -- ---- check
 pub file_odd : (known : Known) (file : List ℕ) (r : FileAnswer) → (length file % 401 ≡ 0 → ⊥) → r ≡ refused 211 0 0 → r ≡ file_answer known file
@@ -170,29 +212,46 @@ module _ (known : Known) (file : List ℕ) (m : length file % 401 ≡ 0) (l : le
       rw (et, e) ((rw none at so.same) ∙ whole)
 
 -- the records before i are accepted, and noted in the lent table, and their consignor seen
-pub record SoFar (known : Known) (file : List ℕ) (i : ℕ) (table₀ table : List ℕ) (seen : Consignor) : Type 0 where
+pub record SoFar (known : Known) (file : List ℕ) (i : ℕ) (table₀ table : List ℕ) (seen : Option Consignor) : Type 0 where
   pub unbroken : Unbroken known file i
   pub noted : Indexed file 0 i table
   pub slots : length table ≡ length table₀
   pub sees : Seen file i seen
 
-pub so_far_none : (known : Known) (file table : List ℕ) → ToCheck file table → SoFar known file 0 table table Nobody
+pub so_far_none : (known : Known) (file table : List ℕ) → HasRoom file table → SoFar known file 0 table table None
 unfolding up_to first_named
 so_far_none known file table to =
     record { unbroken = unbroken_start known file; noted = to.none; slots = refl; sees = record { one = one_none; first = refl } }
 
-pub so_far_on : (known : Known) (file : List ℕ) (i : ℕ) (table₀ table after : List ℕ) (r : Line) → Unbroken known file i → length table ≡ length table₀ → LineAnswered known file i table after r
-    → r.answer.code ≡ 0 → i < length file / 401 → SoFar known file (i + 1) table₀ after r.seen
-so_far_on known file i table₀ table after r unbroken slots answered z h =
-    record {
-      unbroken = file_on known file i r.answer h unbroken answered.answers z;
-      noted = (answered.notes z).noted;
-      slots = (answered.notes z).long ∙ slots;
-      sees = answered.sees z;
-    }
+-- record i among whole ones, before it is judged
+pub line_here : (file : List ℕ) (lines : List (List ℕ)) (i : ℕ) → ToCheck file lines → i < length lines → get_or lines i [] ≡ line_at file i
+line_here file lines i to h = ap (λ (x : List (List ℕ)). get_or x i []) to.cut ∙ nth_chunk 401 (length file / 401) i file (omega (arith, to.many, h))
 
-pub record_with : (file : List ℕ) (i : ℕ) (t r : Totals) → r ≡ with_record t (take (i * 401 + 399 - i * 401) (drop (i * 401) file)) → r ≡ with_record t (record_at file i)
-record_with file i t r e = e ∙ rw (from_start file i 399)
+pub room_here : (file table₀ table : List ℕ) (lines : List (List ℕ)) (known : Known) (i : ℕ) (seen : Option Consignor) → ToCheck file lines → HasRoom file table₀ → SoFar known file i table₀ table seen
+    → i < length lines → RoomFor file i table
+room_here file table₀ table lines known i seen to has so h = record {
+  few = omega (arith, to.few, to.many, h);
+  whole = omega (arith, to.whole, to.many, h);
+  noted = so.noted;
+  room = omega (arith, has.room, so.slots, to.many, h);
+}
+
+module _ (known : Known) (file : List ℕ) (i : ℕ) (table₀ table after : List ℕ) (seen : Option Consignor) (so : SoFar known file i table₀ table seen) (r : Result (Option Consignor) Refusal)
+    (given : LineAnswered known file i table after r) (h : i < length file / 401) where
+  pub so_far_on : (c : Option Consignor) → r ≡ Ok c → SoFar known file (i + 1) table₀ after c
+  so_far_on c e =
+      let right : accepted ≡ line_answer known file i = sym (ap answered e) ∙ given.answers in
+      record {
+        unbroken = file_on known file i accepted h so.unbroken right refl;
+        noted = (given.notes c e).noted;
+        slots = (given.notes c e).long ∙ so.slots;
+        sees = given.sees c e;
+      }
+
+  pub first_breaks : length file % 401 ≡ 0 → length file / 401 ≤ 999 → (e : Refusal) → r ≡ Err e → refused (answer_of e).code (i + 1) (answer_of e).place ≡ file_answer known file
+  first_breaks m l e q =
+      let wrong : answer_of e ≡ line_answer known file i = sym (ap answered q) ∙ given.answers in
+      file_breaks known file m l i (answer_of e) _ h so.unbroken wrong (eqb-false _ 0 (refuses e)) refl
 
 pub totals_on : (file : List ℕ) (i : ℕ) (t t' : Totals) → t ≡ totals_over file i → t' ≡ with_record t (record_at file i) → t' ≡ totals_over file (i + 1)
 unfolding totals_over
@@ -201,3 +260,7 @@ totals_on file i t t' e e' = e' ∙ rw (e, add-one i)
 pub totals_start : (file : List ℕ) (t : Totals) → t ≡ no_totals → t ≡ totals_over file 0
 unfolding totals_over
 totals_start file t e = e
+
+-- ---- k bytes from the start of record i: no proof uses it now, a note of an order names it
+pub from_start : (file : List ℕ) (i k : ℕ) → take (i * 401 + k - i * 401) (drop (i * 401) file) ≡ take k (drop (i * 401) file)
+from_start file i k = rw add-sub_cancel_left

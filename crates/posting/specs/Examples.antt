@@ -3,7 +3,6 @@
 -- Assumes nothing.
 use Rattle.std.specs.Prelude.{ℕ, ◌≡◌, refl, List, [], ◌∷◌}
 use Rattle.text.specs.Answers.{or_else}
-use Rattle.text.specs.Bytes.{every, run}
 use Rattle.text.specs.Lists.{same_bytes}
 use Rattle.text.specs.Numbers.{number_after, digits, decimal_places_up_to}
 use Rattle.text.specs.Texts.{bytes}
@@ -38,5 +37,5 @@ pub record Shown : Type 0 where
   pub strays : file_check listed two_consignors ≡ refused 241 3 1
 
 pub shown : Shown
-unfolding rises_from right_table holds bytes every run number_after same_bytes shape_of weighted ends_right right_id parts_of field_of framed days_in read_date read_time filled contains is_host is_mail is_money digits decimal_places_up_to numbers_from codes number_for words has_code with_code added read_by how_many several_sizes asked_of given_of travel_of table record_answer in_field laid_out record_of parcel cash_on_delivery cancelled_parcel or_else repeats line_answer brought totals_over break_from file_answer file_check sent_to domestic consignor_in another_in up_to one_consignor two_consignors
+unfolding rises_from right_table holds bytes number_after same_bytes shape_of weighted ends_right right_id parts_of field_of framed days_in read_date read_time filled contains is_host is_mail is_money digits decimal_places_up_to numbers_from codes number_for words has_code with_code added read_by how_many several_sizes asked_of given_of travel_of table record_answer in_field laid_out record_of parcel cash_on_delivery cancelled_parcel or_else repeats line_answer brought totals_over break_from file_answer file_check sent_to domestic consignor_in another_in up_to one_consignor two_consignors
 shown = record { passes = refl; strays = refl }

@@ -1,22 +1,22 @@
 -- "A whole file": records of 401 bytes, the first break, and the totals. Records are counted from 0 here, and named from 1 in answers. Which postcodes
 -- exist is for the record's table alone, and is passed on to it.
 -- Assumes nothing.
-use Rattle.std.specs.Prelude.{ℕ, zero, suc, ◌+◌, ◌*◌, ◌/◌, ◌%◌, Bool, false, cond, ◌&&◌, ◌||◌, List, [], ◌∷◌, ◌++◌, length, get_or, take, drop, eqb, leb}
+use Rattle.std.specs.Prelude.{ℕ, zero, suc, ◌+◌, ◌*◌, ◌/◌, ◌%◌, Bool, false, cond, ◌&&◌, ◌||◌, List, [], ◌∷◌, ◌++◌, length, get_or, take, drop, eqb, leb, Result, Ok, Err}
 use Rattle.text.specs.declared.Answer.{Answer}
-use Rattle.text.specs.Answers.{answer, accepted, or_else}
+use Rattle.text.specs.Answers.{answer, accepted, answer_of, or_else}
 use Rattle.text.specs.Lists.{same_bytes}
 use Rattle.psc.specs.Table.{right_table, wrong_table, Known, holds}
 use Rattle.layout.specs.Layout.{field_of}
 use Rattle.fields.specs.declared.amounts.Hellers.{Hellers}
-use Rattle.fields.specs.declared.amounts.MoneyReading.{MoneyReading}
-use Rattle.fields.specs.declared.amounts.MoneyReading.TheVariants as Money
+use Rattle.fields.specs.Readings.{MoneyReading}
+use Rattle.fields.specs.declared.reading.Reading.TheVariants as Money
 use Rattle.fields.specs.declared.others.StatusReading.{StatusReading}
 use Rattle.fields.specs.declared.others.StatusReading.TheVariants as Status
 use Rattle.fields.specs.Amounts.{read_money}
 use Rattle.fields.specs.Others.{read_status}
 use Rattle.record.specs.Rules.{in_file, record_answer}
 use Rattle.record.specs.Consignors.{strays}
-use Rattle.posting.specs.declared.FileAnswer.{FileAnswer}
+use Rattle.posting.specs.declared.Break.{Break}
 use Rattle.posting.specs.declared.Totals.{Totals}
 
 -- ---- records of 401 bytes: 399, then 0Dh 0Ah
@@ -93,12 +93,23 @@ unfoldable pub totals_over : List ℕ → ℕ → Totals
 totals_over file zero = no_totals
 totals_over file (suc n) = with_record (totals_over file n) (record_at file n)
 
--- ---- the answer
+-- ---- the answer: code, number of the record and place of the first break, or 0, 0, 0 and the totals
+pub record FileAnswer : Type 0 where
+  pub code : ℕ
+  pub number : ℕ
+  pub place : ℕ
+  pub totals : Totals
+
 abbrev pub refused : ℕ → ℕ → ℕ → FileAnswer
 refused c r p = record { code = c; number = r; place = p; totals = no_totals }
 
 abbrev pub passed : Totals → FileAnswer
 passed t = record { code = 0; number = 0; place = 0; totals = t }
+
+-- of what a call gives: the totals, or the first break with the paper's code and place
+abbrev pub file_answered : Result Totals Break → FileAnswer
+file_answered (Ok t) = passed t
+file_answered (Err b) = refused (answer_of b.refusal).code b.number (answer_of b.refusal).place
 
 -- record i breaks a rule, or else what comes behind
 abbrev pub line_or : Known → List ℕ → ℕ → FileAnswer → FileAnswer

@@ -4,7 +4,7 @@ use Rattle.std.specs.Prelude.{ℕ, ◌+◌, ◌*◌, ◌≤◌, ◌<◌, ◌≡�
 use Rattle.text.specs.Lists.{joined}
 use Rattle.psc.specs.Table.{Known}
 use Rattle.layout.specs.Layout.{field_of}
-use Rattle.fields.specs.declared.amounts.MoneyReading.TheVariants as Money
+use Rattle.fields.specs.declared.reading.Reading.TheVariants as Money
 use Rattle.fields.specs.declared.others.StatusReading.TheVariants as Status
 use Rattle.fields.specs.Amounts.{read_money}
 use Rattle.fields.specs.Others.{read_status}

@@ -1,14 +1,13 @@
 -- The line of seven decimal numbers that the checking program prints.
 -- Assumes nothing.
-use Rattle.std.specs.Prelude.{ℕ, cond, ◌≡◌, List, [], ◌∷◌, ◌++◌, length, take, leb, ltb}
-use Rattle.text.specs.Answers.{answer, accepted, wrong_length}
+use Rattle.std.specs.Prelude.{ℕ, cond, ◌≡◌, List, [], ◌∷◌, ◌++◌, length, take, leb, ltb, Result, Ok, Err}
+use Rattle.text.specs.declared.Refusal.{Refusal}
+use Rattle.text.specs.declared.Refusal.TheVariants.{WrongLength}
 use Rattle.text.specs.Lists.{overlay}
 use Rattle.text.specs.Numbers.{decimal}
-use Rattle.posting.specs.declared.FileAnswer.{FileAnswer}
-use Rattle.posting.specs.declared.Reported.{Reported}
 use Rattle.psc.specs.Table.{right_table, holds}
 use Rattle.psc.specs.Text.{table_in, right_text}
-use Rattle.posting.specs.File.{file_answer, refused, table_refused}
+use Rattle.posting.specs.File.{FileAnswer, file_answer, refused, table_refused}
 
 -- code, record, place, live, cancelled, cash on delivery in haléře, price specified in haléře
 abbrev pub numbers_of : FileAnswer → List ℕ
@@ -29,9 +28,8 @@ abbrev pub report_of : FileAnswer → List ℕ
 report_of a = line (numbers_of a)
 
 -- the line in front of a lent buffer and its length; 236, place 0, exactly if the buffer is shorter than the line, and then it stays
-pub record Report (a : FileAnswer) (before : List ℕ) (r : Reported) (after : List ℕ) : Type 0 where
-  pub answers : r.answer ≡ cond (leb (length (report_of a)) (length before)) accepted wrong_length
-  pub counts : r.length ≡ cond (leb (length (report_of a)) (length before)) (length (report_of a)) 0
+pub record Report (a : FileAnswer) (before : List ℕ) (r : Result ℕ Refusal) (after : List ℕ) : Type 0 where
+  pub answers : r ≡ cond (leb (length (report_of a)) (length before)) (Ok (length (report_of a))) (Err WrongLength)
   pub bytes : after ≡ cond (leb (length (report_of a)) (length before)) (overlay before 0 (report_of a)) before
 
 -- ---- the longest line: seven numbers of 20 digits, each with a byte behind it
@@ -39,10 +37,9 @@ abbrev pub longest_line : ℕ
 longest_line = 147
 
 -- what `Report` says where the buffer has at least so many bytes: the whole line stands there
-pub record WholeLine (a : FileAnswer) (r : Reported) (after : List ℕ) : Type 0 where
-  pub answers : r.answer ≡ accepted
-  pub counts : r.length ≡ length (report_of a)
-  pub bytes : take r.length after ≡ report_of a
+pub record WholeLine (a : FileAnswer) (r : Result ℕ Refusal) (after : List ℕ) : Type 0 where
+  pub answers : r ≡ Ok (length (report_of a))
+  pub bytes : take (length (report_of a)) after ≡ report_of a
 
 -- ---- the checking program takes at most 64,160 bytes; 238 is ahead of its 213
 unfoldable pub input_answer : List ℕ → List ℕ → FileAnswer

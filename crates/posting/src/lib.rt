@@ -1,24 +1,26 @@
 // A whole K file: the first break of a rule, or the totals; and the line that reports it.
 #![tactic(auto)]
 
-ghost use Rattle.std.specs.Prelude.{◌≡◌, false, ◌+◌, ◌*◌, ◌^◌, ◌≤◌, ◌<◌, ◌∷◌, ◌++◌, [], length, drop};
+ghost use Rattle.std.specs.Prelude.{◌≡◌, ◌+◌, ◌/◌, ◌≤◌, ◌<◌, ◌∷◌, ◌++◌, [], length, drop};
 ghost use Rattle.psc.specs.Search.{found};
+ghost use Rattle.text.specs.Answers.{answer_of};
 ghost use Rattle.text.specs.Promises.{Gives, GivesWithin};
 ghost use Rattle.text.specs.Lists.{overlay};
 ghost use Rattle.text.specs.Numbers.{decimal_places, decimal};
-ghost use Rattle.posting.specs.File.{record_at, repeats, no_totals, amount_of, brought, with_record, refused, file_answer, table_refused, file_check};
-ghost use Rattle.posting.specs.Calls.{fits, sum_of_totals, total_or};
+ghost use Rattle.posting.specs.File.{line_ends, repeats, amount_of, brought, with_record, refused, file_answered, file_answer, table_refused, file_check};
+ghost use Rattle.posting.specs.Calls.{sum_of_totals};
 ghost use Rattle.posting.specs.Bounds.{Small};
-ghost use Rattle.posting.specs.Slots.{RoomFor, NowNoted, Seen, LineAnswered, ToCheck};
+ghost use Rattle.posting.specs.Records.{line_at};
+ghost use Rattle.posting.specs.Slots.{RoomFor, NowNoted, Seen, LineAnswered, ToCheck, HasRoom};
 ghost use Rattle.posting.specs.Report.{numbers_of, behind, line, Report, input_answer};
 
-use fields::{Hellers, MoneyReading, StatusReading, Sum};
+use fields::{Hellers, StatusReading};
 use ident::Consignor;
-use psc::WRONG_TABLE;
-use text::{ACCEPTED, Answer, WRONG_LENGTH};
+use index::Keyed;
+use text::{Answer, Refusal};
 
 // Live and cancelled consignments, and what the live ones bring.
-#[derive(Clone, Copy)]
+#[derive(Clone, Copy, Debug, PartialEq, Eq, Default)]
 pub struct Totals {
     pub live: u64,
     pub cancelled: u64,
@@ -26,150 +28,67 @@ pub struct Totals {
     pub price: Hellers,
 }
 
-// What two totals make together.
-#[derive(Clone, Copy)]
-pub enum TotalsSum {
-    Total(Totals),
-    TooLarge,
-}
-
-// Code, number of the record and place of the first break, or 0, 0, 0 and the totals.
-#[derive(Clone, Copy)]
-pub struct FileAnswer {
-    pub code: u32,
+// The first break: why, and the number of the record, counted from 1; 0 where the file as a whole or the table is refused.
+#[derive(Clone, Copy, Debug, PartialEq, Eq)]
+pub struct Break {
+    pub refusal: Refusal,
     pub number: u32,
-    pub place: u32,
-    pub totals: Totals,
-}
-
-// The answer to a request for a line, and how many bytes the line has.
-#[derive(Clone, Copy)]
-pub struct Reported {
-    pub answer: Answer,
-    pub length: usize,
-}
-
-fn no_totals() -> Totals
-    ensures { result ≡ no_totals }
-{
-    Totals {
-        live: 0,
-        cancelled: 0,
-        cash: Hellers(0),
-        price: Hellers(0),
-    }
-}
-
-fn refused(code: u32, number: u32, place: u32) -> FileAnswer
-    ensures { result ≡ refused code number place }
-{
-    let totals = no_totals();
-    FileAnswer {
-        code,
-        number,
-        place,
-        totals,
-    }
 }
 
 // Whether one of the records before record i has its identifier. Those before are noted in the table, and this one is then, too.
 fn repeated(file: &[u8], i: usize, table: &mut [u16]) -> bool
-    requires { (i < 1000) × (i * 401 + 401 ≤ length file.now) × RoomFor file.now i table.old }
+    requires { RoomFor file.now i table.old }
     ensures { (result ≡ repeats file.now i i) × NowNoted file.now i table.old table.new }
 {
-    let before = index::put(table, file, 0, i);
-    before != 0
+    Keyed { file, from: 0 }.put(table, i).is_some()
 }
 
-// The line end is wrong.
-const WRONG_END: Answer = Answer {
-    code: 212,
-    place: 0,
-};
-
-// The identifier is there already, cancelled or not.
-pub const TWICE: Answer = Answer { code: 2, place: 1 };
-
-// The identifier names a consignor, and one there, cancelled or not, names another.
-pub const OTHER_CONSIGNOR: Answer = Answer {
-    code: 241,
-    place: 1,
-};
-
-// What a record breaks, and the first consignor that is named up to it.
-#[derive(Clone, Copy)]
-pub struct Line {
-    pub answer: Answer,
-    pub seen: Consignor,
+// Whether a line ends in 0Dh 0Ah.
+fn ends_right(line: &[u8; 401]) -> bool
+    ensures { result ≡ line_ends line.now 0 }
+{
+    line[399] == b'\r' && line[400] == b'\n'
 }
 
-// What record i breaks, its line end first. The consignor seen is the first that is named before it.
-fn line_answer(file: &[u8], i: usize, psc: &[u32], table: &mut [u16], seen: Consignor) -> Line
-    requires { (i < 1000) × (i * 401 + 401 ≤ length file.now) × RoomFor file.now i table.old × Seen file.now i seen }
+// What record i breaks, whose line it is, the line end first; where it breaks nothing, the first consignor that is named up to it. The consignor seen is the
+// first that is named before it.
+fn line_answer(
+    file: &[u8],
+    i: usize,
+    line: &[u8; 401],
+    psc: &[u32],
+    table: &mut [u16],
+    seen: Option<Consignor>,
+) -> Result<Option<Consignor>, Refusal>
+    requires { (line.now ≡ line_at file.now i) × RoomFor file.now i table.old × Seen file.now i seen }
     ensures { LineAnswered (found psc.now) file.now i table.old table.new result }
 {
-    let at = i * 401;
-    let e = at + 399;
-    let ended = (file[e] == 13) & (file[at + 400] == 10);
-    if !ended {
-        return Line {
-            answer: WRONG_END,
-            seen,
-        };
+    if !ends_right(line) {
+        return Err(Refusal::WrongLineEnd);
     }
-    let check = record::answer(&file[at..e], psc, false);
-    let answer = check.answer;
-    let consignor = check.consignor;
-    if answer.code != 0 {
-        return Line { answer, seen };
-    }
+    let check = record::answer(&line[..399], psc, false);
+    check.answer?;
     if repeated(file, i, table) {
-        return Line {
-            answer: TWICE,
-            seen,
-        };
+        return Err(Refusal::Repeated);
     }
-    if seen.another(consignor) {
-        return Line {
-            answer: OTHER_CONSIGNOR,
-            seen,
-        };
+    if ident::another(seen, check.consignor) {
+        return Err(Refusal::OtherConsignor);
     }
-    Line {
-        answer: ACCEPTED,
-        seen: seen.or_named(consignor),
-    }
+    Ok(seen.or(check.consignor))
 }
 
 // ---- totals
 
-// Whether the sum of two counts has 64 bits.
-fn fits(a: u64, b: u64) -> bool
-    ensures { result ≡ fits (a + b) }
-{
-    a <= u64::MAX - b
-}
-
 impl Totals {
-    // Kind by kind: haléře on delivery and haléře specified never meet.
-    pub fn plus(self, other: Totals) -> TotalsSum
+    // Kind by kind: haléře on delivery and haléře specified never meet. None where one of the four sums does not fit.
+    pub fn plus(self, other: Totals) -> Option<Totals>
         ensures { Gives (sum_of_totals self other) result }
     {
-        if !fits(self.live, other.live) {
-            return TotalsSum::TooLarge;
-        }
-        let live = self.live + other.live;
-        if !fits(self.cancelled, other.cancelled) {
-            return TotalsSum::TooLarge;
-        }
-        let cancelled = self.cancelled + other.cancelled;
-        let Sum::Total(cash) = self.cash.plus(other.cash) else {
-            return TotalsSum::TooLarge;
-        };
-        let Sum::Total(price) = self.price.plus(other.price) else {
-            return TotalsSum::TooLarge;
-        };
-        TotalsSum::Total(Totals {
+        let live = self.live.checked_add(other.live)?;
+        let cancelled = self.cancelled.checked_add(other.cancelled)?;
+        let cash = self.cash.plus(other.cash)?;
+        let price = self.price.plus(other.price)?;
+        Some(Totals {
             live,
             cancelled,
             cash,
@@ -178,26 +97,13 @@ impl Totals {
     }
 }
 
-impl TotalsSum {
-    pub fn total_or(self, other: Totals) -> Totals
-        ensures { Gives (total_or self other) result }
-    {
-        match self {
-            TotalsSum::Total(t) => t,
-            TotalsSum::TooLarge => other,
-        }
-    }
-}
-
 // The amount in field n of a record; 0 where there is none.
 pub fn amount(rec: &[u8], n: usize) -> Hellers
     ensures { GivesWithin (amount_of rec.now n) (λ h. h.0 < 100000000000) result }
 {
-    match fields::read_money(layout::field(rec, n)) {
-        MoneyReading::Absent => Hellers(0),
-        MoneyReading::Value(h) => h,
-        MoneyReading::Malformed => Hellers(0),
-    }
+    fields::read_money(layout::field(rec, n))
+        .value()
+        .unwrap_or(Hellers(0))
 }
 
 // What a record brings to the totals, live or cancelled. What is neither brings nothing.
@@ -217,7 +123,7 @@ pub fn brought(rec: &[u8]) -> Totals
             cash: Hellers(0),
             price: Hellers(0),
         },
-        StatusReading::Malformed => no_totals(),
+        StatusReading::Malformed => Totals::default(),
     }
 }
 
@@ -226,82 +132,85 @@ fn with_record(t: Totals, rec: &[u8]) -> Totals
     requires { Small t }
     ensures { result ≡ with_record t rec.now }
 {
-    t.plus(brought(rec)).total_or(t)
+    t.plus(brought(rec)).unwrap_or(t)
 }
 
-// The totals with record i of a file more.
-fn with_record_at(t: Totals, file: &[u8], i: usize) -> Totals
-    requires { Small t × (i * 401 + 401 ≤ length file.now) }
-    ensures { result ≡ with_record t (record_at file.now i) }
+// What whole records break, and their totals. The lent table has none of them yet, and more slots than there are records.
+fn checked(
+    file: &[u8],
+    lines: &[[u8; 401]],
+    psc: &[u32],
+    table: &mut [u16],
+) -> Result<Totals, Break>
+    requires { ToCheck file.now lines.now × HasRoom file.now table.old }
+    ensures { file_answered result ≡ file_answer (found psc.now) file.now }
 {
-    let start = i * 401;
-    with_record(t, &file[start..start + 399])
+    let mut totals = Totals::default();
+    let mut seen = None;
+    for (i, line) in lines.iter().enumerate() {
+        let number = i as u32 + 1;
+        seen = line_answer(file, i, line, psc, table, seen).map_err(|refusal| Break {
+            refusal,
+            number,
+        })?;
+        totals = with_record(totals, &line[..399]);
+    }
+    Ok(totals)
 }
 
-// The answer to whole records. The lent table has none of them yet, and more slots than there are records.
-fn checked(file: &[u8], psc: &[u32], table: &mut [u16]) -> FileAnswer
-    requires { ToCheck file.now table.old }
-    ensures { result ≡ file_answer (found psc.now) file.now }
+// The same, with a table of so many slots.
+fn checked_among<const N: usize>(
+    file: &[u8],
+    lines: &[[u8; 401]],
+    psc: &[u32],
+) -> Result<Totals, Break>
+    requires { ToCheck file.now lines.now × (length file.now / 401 + 1 < N) × (N ≤ 2048) }
+    ensures { file_answered result ≡ file_answer (found psc.now) file.now }
 {
-    let n = file.len() / 401;
-    let mut totals = no_totals();
-    let mut seen = Consignor::Nobody;
-    let mut i = 0;
-    while i < n {
-        let line = line_answer(file, i, psc, table, seen);
-        let answer = line.answer;
-        if answer.code != 0 {
-            return refused(answer.code, i as u32 + 1, answer.place);
-        }
-        seen = line.seen;
-        totals = with_record_at(totals, file, i);
-        i += 1;
-    }
-    FileAnswer {
-        code: 0,
-        number: 0,
-        place: 0,
-        totals,
-    }
+    checked(file, lines, psc, &mut [0u16; N])
+}
+
+// The file as a whole, or the table, is refused.
+fn refused(refusal: Refusal) -> Break
+    ensures { file_answered (Err result) ≡ refused (answer_of refusal).code 0 (answer_of refusal).place }
+{
+    Break { refusal, number: 0 }
 }
 
 // The answer by what a look finds in the table of postcodes, which has been tested.
-fn looked_up(file: &[u8], psc: &[u32]) -> FileAnswer
-    ensures { result ≡ file_answer (found psc.now) file.now }
+fn looked_up(file: &[u8], psc: &[u32]) -> Result<Totals, Break>
+    ensures { file_answered result ≡ file_answer (found psc.now) file.now }
 {
-    if file.len() % 401 != 0 {
-        return refused(211, 0, 0);
+    let (lines, rest) = file.as_chunks::<401>();
+    if !rest.is_empty() {
+        return Err(refused(Refusal::NotWholeRecords));
     }
-    let n = file.len() / 401;
-    if n > 999 {
-        return refused(213, 0, 0);
+    if lines.len() > 999 {
+        return Err(refused(Refusal::TooManyRecords));
     }
     // Slots are cleared at each call, so there are few for a small file; and at least twice as many as records, so that walks are short.
-    if n < 64 {
-        let mut few = [0u16; 128];
-        return checked(file, psc, &mut few[..128]);
+    if lines.len() < 64 {
+        return checked_among::<128>(file, lines, psc);
     }
-    if n < 256 {
-        let mut some = [0u16; 512];
-        return checked(file, psc, &mut some[..512]);
+    if lines.len() < 256 {
+        return checked_among::<512>(file, lines, psc);
     }
-    let mut table = [0u16; 2048];
-    checked(file, psc, &mut table[..2048])
+    checked_among::<2048>(file, lines, psc)
 }
 
 // The answer under a wrong table.
-pub fn table_refused() -> FileAnswer
-    ensures { Gives table_refused result }
+pub fn table_refused() -> Break
+    ensures { Gives table_refused (file_answered (Err result)) }
 {
-    refused(WRONG_TABLE.code, 0, WRONG_TABLE.place)
+    refused(Refusal::WrongTable)
 }
 
-// The check of a whole file, under a table of the postcodes that exist.
-pub fn check(file: &[u8], psc: &[u32]) -> FileAnswer
-    ensures { Gives (file_check psc.now file.now) result }
+// The check of a whole file, under a table of the postcodes that exist: the first break of a rule, or the totals.
+pub fn check(file: &[u8], psc: &[u32]) -> Result<Totals, Break>
+    ensures { Gives (file_check psc.now file.now) (file_answered result) }
 {
     if !psc::right(psc) {
-        return table_refused();
+        return Err(table_refused());
     }
     looked_up(file, psc)
 }
@@ -312,44 +221,43 @@ pub fn check(file: &[u8], psc: &[u32]) -> FileAnswer
 pub const LONGEST_LINE: usize = 147;
 
 // Code, record, place, live, cancelled, haléře on delivery, haléře specified.
-pub fn numbers_of(a: FileAnswer) -> [u64; 7]
-    ensures { Gives (numbers_of a) result }
+pub fn numbers_of(given: Result<Totals, Break>) -> [u64; 7]
+    ensures { Gives (numbers_of (file_answered given)) result }
 {
-    let t = a.totals;
-    [
-        a.code as u64,
-        a.number as u64,
-        a.place as u64,
-        t.live,
-        t.cancelled,
-        t.cash.0,
-        t.price.0,
-    ]
+    match given {
+        Ok(t) => [0, 0, 0, t.live, t.cancelled, t.cash.0, t.price.0],
+        Err(b) => {
+            let Answer { code, place } = Answer::from(b.refusal);
+            [
+                u64::from(code),
+                u64::from(b.number),
+                u64::from(place),
+                0,
+                0,
+                0,
+                0,
+            ]
+        }
+    }
 }
 
 // How many bytes the line of these numbers has.
-fn line_length(numbers: &[u64]) -> usize
-    requires { length numbers.now ≤ 7 }
+fn line_length(numbers: &[u64; 7]) -> usize
     ensures { result ≡ length (line numbers.now) }
 {
-    let mut count: usize = 0;
-    let mut i = 0;
-    while i < numbers.len() {
-        count += text::decimal_places(numbers[i]) + 1;
-        i += 1;
-    }
-    count
+    numbers.iter().map(|n| text::decimal_places(*n) + 1).sum()
 }
 
 // The byte behind number i.
-fn behind(numbers: &[u64], i: usize) -> u8
-    requires { i < length numbers.now }
+fn behind(numbers: &[u64; 7], i: usize) -> u8
+    requires { i < 7 }
     ensures { result ≡ behind (drop (i + 1) numbers.now) }
 {
     if i + 1 < numbers.len() { b' ' } else { b'\n' }
 }
 
 // Puts n in decimal from place `at` on, and a byte behind it; gives the place behind that.
+// It takes the whole buffer and a place: had it the rest of the buffer and gave back what is left, nothing would be known of the whole at the end.
 fn put_number(out: &mut [u8], at: usize, n: u64, b: u8) -> usize
     requires { at + decimal_places n < length out.old }
     ensures { (out.new ≡ overlay out.old at (decimal n ++ b ∷ [])) × (result ≡ at + decimal_places n + 1) }
@@ -362,59 +270,50 @@ fn put_number(out: &mut [u8], at: usize, n: u64, b: u8) -> usize
 }
 
 // Puts the line of these numbers at the front.
-fn put_line(out: &mut [u8], numbers: &[u64])
+fn put_line(out: &mut [u8], numbers: &[u64; 7])
     requires { length (line numbers.now) ≤ length out.old }
     ensures { out.new ≡ overlay out.old 0 (line numbers.now) }
 {
     let mut at = 0;
-    let mut i = 0;
-    while i < numbers.len() {
-        let b = behind(numbers, i);
-        at = put_number(out, at, numbers[i], b);
-        i += 1;
+    for (i, n) in numbers.iter().enumerate() {
+        at = put_number(out, at, *n, behind(numbers, i));
     }
 }
 
-// The line for such an answer, into a lent buffer.
-pub fn put_report(a: FileAnswer, out: &mut [u8]) -> Reported
-    ensures { Report a out.old result out.new }
+// The line for what is given of a file, into a lent buffer; gives its length.
+pub fn put_report(given: Result<Totals, Break>, out: &mut [u8]) -> Result<usize, Refusal>
+    ensures { Report (file_answered given) out.old result out.new }
 {
-    let numbers = numbers_of(a);
+    let numbers = numbers_of(given);
     let n = line_length(&numbers);
     if n > out.len() {
-        return Reported {
-            answer: WRONG_LENGTH,
-            length: 0,
-        };
+        return Err(Refusal::WrongLength);
     }
     put_line(out, &numbers);
-    Reported {
-        answer: ACCEPTED,
-        length: n,
-    }
+    Ok(n)
 }
 
 // The line for a whole file, into a lent buffer.
-pub fn report(file: &[u8], psc: &[u32], out: &mut [u8]) -> Reported
+pub fn report(file: &[u8], psc: &[u32], out: &mut [u8]) -> Result<usize, Refusal>
     ensures { Report (file_check psc.now file.now) out.old result out.new }
 {
     put_report(check(file, psc), out)
 }
 
-fn check_input(input: &[u8], psc: &[u32]) -> FileAnswer
-    ensures { result ≡ input_answer psc.now input.now }
+fn check_input(input: &[u8], psc: &[u32]) -> Result<Totals, Break>
+    ensures { file_answered result ≡ input_answer psc.now input.now }
 {
     if !psc::right(psc) {
-        return table_refused();
+        return Err(table_refused());
     }
     if input.len() > 64_160 {
-        return refused(213, 0, 0);
+        return Err(refused(Refusal::TooManyRecords));
     }
     looked_up(input, psc)
 }
 
 // The same for what the checking program has read: above 64,160 bytes the line says 213.
-pub fn report_input(input: &[u8], psc: &[u32], out: &mut [u8]) -> Reported
+pub fn report_input(input: &[u8], psc: &[u32], out: &mut [u8]) -> Result<usize, Refusal>
     ensures { Report (input_answer psc.now input.now) out.old result out.new }
 {
     put_report(check_input(input, psc), out)

@@ -42,13 +42,11 @@ rises least (n ∷ ns) low up =
 
 -- ---- entries up to 99999
 each_within : (table : List ℕ) → every is_postcode table ≡ true → (i : ℕ) → i < length table → get_or table i 0 ≤ 99999
-unfolding every
 each_within [] h i l = absurd (omega arith)
 each_within (n ∷ ns) h zero l = leb-true n 99999 (both (is_postcode n) (every is_postcode ns) h).0
 each_within (n ∷ ns) h (suc i) l = each_within ns (both (is_postcode n) (every is_postcode ns) h).1 i (omega arith)
 
 all_within : (table : List ℕ) → ((i : ℕ) → i < length table → get_or table i 0 ≤ 99999) → every is_postcode table ≡ true
-unfolding every
 all_within [] h = refl
 all_within (n ∷ ns) h = rw (le-leb n 99999 (h 0 (omega arith)), all_within ns (λ i l. h (suc i) (omega arith)))
 

@@ -53,7 +53,7 @@ lines_written (suc k) text h =
     rw (lines_written k (drop 6 text) p.1) (line_written text p.0)
 
 pub lines_within : (k : ℕ) (text : List ℕ) → is_lines k text ≡ true → every is_postcode (numbers_in k text) ≡ true
-unfolding is_lines numbers_in every
+unfolding is_lines numbers_in
 lines_within zero text h = refl
 lines_within (suc k) text h =
     let p = both (starts_with_line text) (is_lines k (drop 6 text)) h in
@@ -96,7 +96,7 @@ text_lines [] = refl
 text_lines (n ∷ ns) = rw (front n (text_of ns), feed n (text_of ns), behind n (text_of ns), digits_all 5 n, text_lines ns)
 
 text_numbers : (table : List ℕ) → every is_postcode table ≡ true → numbers_in (length table) (text_of table) ≡ table
-unfolding every numbers_in
+unfolding numbers_in
 text_numbers [] h = refl
 text_numbers (n ∷ ns) h =
     let p = both (is_postcode n) (every is_postcode ns) h in

@@ -42,5 +42,5 @@ claims =
     ∷ []
 
 pub shown : all_hold claims ≡ true
-unfolding bytes all_hold every same_bytes number_after digits rises_from right_table holds found_in found is_lines numbers_in right_text three_lines claims
+unfolding bytes all_hold same_bytes number_after digits rises_from right_table holds found_in found is_lines numbers_in right_text three_lines claims
 shown = refl

@@ -8,8 +8,8 @@ use mathlib.Core.Logic.{◌↔◌}
 use Rattle.text.specs.Answers.{answer}
 use Rattle.text.proofs.Booleans.{clash}
 use Rattle.layout.specs.Layout.{width_of, field_of}
-use Rattle.fields.specs.declared.texts.TextReading.{TextReading}
-use Rattle.fields.specs.declared.texts.TextReading.TheVariants as Text
+use Rattle.fields.specs.Readings.{TextReading}
+use Rattle.fields.specs.declared.reading.Reading.TheVariants as Reading
 use Rattle.fields.specs.Texts.{absent_text}
 use Rattle.fields.specs.Others.{read_country, absent_country}
 use Rattle.fields.specs.Postcodes.{malformed_postcode, absent_postcode}
@@ -26,10 +26,10 @@ module _ (t : Terms) (rec : List ℕ) where
   text_blank : (n : ℕ) → (absent_text (text_in rec n) ≡ true) ↔ Blank rec n
   text_blank n = (λ h. (text_absent (width_of n) (field_of rec n)).0 (is_absent (text_in rec n) h), λ s. ap absent_text ((text_absent (width_of n) (field_of rec n)).1 s))
     where
-      is_absent : (r : TextReading) → absent_text r ≡ true → r ≡ Text.Absent
-      is_absent Text.Absent h = refl
-      is_absent (Text.Value k) h = absurd (clash h refl)
-      is_absent Text.Malformed h = absurd (clash h refl)
+      is_absent : (r : TextReading) → absent_text r ≡ true → r ≡ Reading.Absent
+      is_absent Reading.Absent h = refl
+      is_absent (Reading.Value k) h = absurd (clash h refl)
+      is_absent Reading.Malformed h = absurd (clash h refl)
 
   missing : ((absent_country (address_of rec).country && absent_postcode (address_of rec).postcode) ≡ true) ↔ (Blank rec 6 × Blank rec 5)
   missing =

@@ -13,11 +13,8 @@ use Rattle.text.specs.declared.Answer.{Answer}
 use Rattle.text.specs.Answers.{wrong_length}
 use Rattle.text.proofs.Booleans.{clash}
 use Rattle.layout.specs.Layout.{field_of}
-use Rattle.fields.specs.declared.numbers.NumberReading.{NumberReading}
-use Rattle.fields.specs.declared.numbers.NumberReading.TheVariants as Number
-use Rattle.fields.specs.declared.texts.TextReading.TheVariants as Text
-use Rattle.fields.specs.declared.others.CountryReading.{CountryReading}
-use Rattle.fields.specs.declared.others.CountryReading.TheVariants as Country
+use Rattle.fields.specs.Readings.{NumberReading, CountryReading}
+use Rattle.fields.specs.declared.reading.Reading.TheVariants as Reading
 use Rattle.fields.specs.Texts.{read_text, absent_text}
 use Rattle.fields.specs.Numbers.{read_digits, malformed_number, absent_number}
 use Rattle.fields.specs.Others.{read_country, absent_country}
@@ -39,31 +36,31 @@ record JudgedAlike (c : CountryReading) (f : List ℕ) : Type 0 where
   formed : malformed_postcode (read_postcode c f) ≡ malformed_number (read_digits 5 f)
   placed : (absent_country c && absent_postcode (read_postcode c f)) ≡ misplaced c (read_digits 5 f)
 
-alike : (c : CountryReading) (f : List ℕ) → (c ≡ Country.Absent) ⊎ (f ≡ replicate 5 32) → JudgedAlike c f
+alike : (c : CountryReading) (f : List ℕ) → (c ≡ Reading.Absent) ⊎ (f ≡ replicate 5 32) → JudgedAlike c f
 alike c f (inl home) = rw home (record { formed = formed (read_digits 5 f); placed = placed (read_digits 5 f) })
   where
     formed : (r : NumberReading) → malformed_postcode (domestic r) ≡ malformed_number r
-    formed Number.Absent = refl
-    formed (Number.Value n) = refl
-    formed Number.Malformed = refl
+    formed Reading.Absent = refl
+    formed (Reading.Value n) = refl
+    formed Reading.Malformed = refl
 
-    placed : (r : NumberReading) → absent_postcode (domestic r) ≡ misplaced Country.Absent r
-    placed Number.Absent = refl
-    placed (Number.Value n) = refl
-    placed Number.Malformed = refl
+    placed : (r : NumberReading) → absent_postcode (domestic r) ≡ misplaced Reading.Absent r
+    placed Reading.Absent = refl
+    placed (Reading.Value n) = refl
+    placed Reading.Malformed = refl
 alike c f (inr blank) = go c ((digits_absent 5 f).1 blank) ((text_absent 5 f).1 blank)
   where
-    go : (c : CountryReading) → read_digits 5 f ≡ Number.Absent → read_text 5 f ≡ Text.Absent → JudgedAlike c f
-    go Country.Absent d t = record { formed = rw d; placed = rw d }
-    go (Country.Value a b) d t = record { formed = rw (d, t); placed = rw d }
-    go Country.Malformed d t = record { formed = rw (d, t); placed = rw d }
+    go : (c : CountryReading) → read_digits 5 f ≡ Reading.Absent → read_text 5 f ≡ Reading.Absent → JudgedAlike c f
+    go Reading.Absent d t = record { formed = rw d; placed = rw d }
+    go (Reading.Value v) d t = record { formed = rw (d, t); placed = rw d }
+    go Reading.Malformed d t = record { formed = rw (d, t); placed = rw d }
 
 module _ (t : Terms) (rec : List ℕ) where
   pub same_answer : Blank rec 6 ⊎ Blank rec 5 → record_answer t rec ≡ answer_blank_abroad t rec
   unfolding record_answer answer_blank_abroad table table_blank_abroad
   same_answer b = let a = alike (read_country (field_of rec 6)) (field_of rec 5) (home b) in rw (a.formed, a.placed)
     where
-      home : Blank rec 6 ⊎ Blank rec 5 → (read_country (field_of rec 6) ≡ Country.Absent) ⊎ (field_of rec 5 ≡ replicate 5 32)
+      home : Blank rec 6 ⊎ Blank rec 5 → (read_country (field_of rec 6) ≡ Reading.Absent) ⊎ (field_of rec 5 ≡ replicate 5 32)
       home (inl s) = inl ((country_absent (field_of rec 6)).1 s)
       home (inr s) = inr s
 
@@ -71,15 +68,15 @@ module _ (t : Terms) (rec : List ℕ) where
 left_blank : (f : List ℕ) → not (absent_number (read_digits 5 f)) ≡ false → f ≡ replicate 5 32
 left_blank f h = (digits_absent 5 f).0 (go (read_digits 5 f) h)
   where
-    go : (r : NumberReading) → not (absent_number r) ≡ false → r ≡ Number.Absent
-    go Number.Absent h = refl
-    go (Number.Value n) h = absurd (clash refl h)
-    go Number.Malformed h = absurd (clash refl h)
+    go : (r : NumberReading) → not (absent_number r) ≡ false → r ≡ Reading.Absent
+    go Reading.Absent h = refl
+    go (Reading.Value n) h = absurd (clash refl h)
+    go Reading.Malformed h = absurd (clash refl h)
 
-home_or_blank : (c : CountryReading) (f : List ℕ) → misplaced c (read_digits 5 f) ≡ false → (c ≡ Country.Absent) ⊎ (f ≡ replicate 5 32)
-home_or_blank Country.Absent f h = inl refl
-home_or_blank (Country.Value a b) f h = inr (left_blank f h)
-home_or_blank Country.Malformed f h = inr (left_blank f h)
+home_or_blank : (c : CountryReading) (f : List ℕ) → misplaced c (read_digits 5 f) ≡ false → (c ≡ Reading.Absent) ⊎ (f ≡ replicate 5 32)
+home_or_blank Reading.Absent f h = inl refl
+home_or_blank (Reading.Value v) f h = inr (left_blank f h)
+home_or_blank Reading.Malformed f h = inr (left_blank f h)
 
 third_kept : (r s t : Rule) (rs : List Rule) → none_broken (r ∷ s ∷ t ∷ rs) ≡ true → broken t ≡ false
 unfolding none_broken
@@ -102,7 +99,7 @@ module _ (t : Terms) (rec : List ℕ) where
       let address = third_kept (identifier_rule rec) (malformed_rule (malformed_blank_abroad t.to_be_posted rec)) (address_rule_blank_abroad rec) later h in
       go (home_or_blank (read_country (field_of rec 6)) (field_of rec 5) (middle (absent_text (text_in rec 4)) _ (absent_text (text_in rec 7)) address))
     where
-      go : (read_country (field_of rec 6) ≡ Country.Absent) ⊎ (field_of rec 5 ≡ replicate 5 32) → Blank rec 6 ⊎ Blank rec 5
+      go : (read_country (field_of rec 6) ≡ Reading.Absent) ⊎ (field_of rec 5 ≡ replicate 5 32) → Blank rec 6 ⊎ Blank rec 5
       go (inl s) = inl ((country_absent (field_of rec 6)).0 s)
       go (inr s) = inr s
 

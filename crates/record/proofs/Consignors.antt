@@ -9,8 +9,8 @@ use native.Mathlib.Omega.{arith}
 use borrow.Author.Tests.{ltb-true, ltb-false}
 use lib.Dec.{ltb}
 use lib.ListN.{length, get_or, get_or-eq_default}
+use Rattle.std.proofs.Common.{Option, None}
 use Rattle.ident.specs.declared.consignor.Consignor.{Consignor}
-use Rattle.ident.specs.declared.consignor.Consignor.TheVariants.{Nobody}
 use Rattle.ident.specs.Identifier.{right_id}
 use Rattle.ident.specs.Consignor.{consignor_in, another, Another, AllTheSame, or_named, first_named}
 use Rattle.ident.proofs.Consignors as Ident
@@ -18,11 +18,11 @@ use Rattle.layout.specs.Layout.{field_of}
 use Rattle.record.specs.Consignors.{consignor_of, consignors_of, strays, Strays, OneConsignor, first_of}
 
 -- record i and its consignor; where there is none, nobody's
-nobody_named : consignor_of [] ≡ Nobody
+nobody_named : consignor_of [] ≡ None
 unfolding field_of consignor_in right_id
 nobody_named = refl
 
-nth : (recs : List (List ℕ)) (i : ℕ) → get_or (consignors_of recs) i Nobody ≡ consignor_of (get_or recs i [])
+nth : (recs : List (List ℕ)) (i : ℕ) → get_or (consignors_of recs) i None ≡ consignor_of (get_or recs i [])
 nth [] i = sym nobody_named
 nth (rec ∷ recs) zero = refl
 nth (rec ∷ recs) (suc i) = nth recs i
@@ -43,7 +43,7 @@ strays_not recs rec none = go (strays recs rec) refl
     go false e = refl
 
 -- ---- who is named stands among them
-pub named_within : (recs : List (List ℕ)) (i : ℕ) {c : Consignor} → Another (consignor_of (get_or recs i [])) c → i < length recs
+pub named_within : (recs : List (List ℕ)) (i : ℕ) {c : Option Consignor} → Another (consignor_of (get_or recs i [])) c → i < length recs
 named_within recs i a = go (ltb i (length recs)) refl
   where
     go : (b : Bool) → ltb i (length recs) ≡ b → i < length recs

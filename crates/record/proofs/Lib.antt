@@ -1,6 +1,4 @@
 pub mod Tables
-pub mod ReadingWays
-pub mod Ways
 pub mod FineLaws
 pub mod Order
 pub mod Status
@@ -14,3 +12,5 @@ pub mod AddressCodes
 pub mod BlankAbroad
 pub mod NumbersOnly
 pub mod ServiceCodes
+pub mod OneOutcome
+pub mod Former

@@ -11,7 +11,7 @@ use lib.ListN.{length}
 use Rattle.text.specs.declared.Answer.{Answer}
 use Rattle.text.specs.Answers.{wrong_length}
 use Rattle.layout.specs.Layout.{field_of}
-use Rattle.fields.specs.declared.services.ServicesReading.{ServicesReading}
+use Rattle.fields.specs.Readings.{ServicesReading}
 use Rattle.fields.specs.Codes.{numbers}
 use Rattle.fields.specs.Services.{read_by, read_services, malformed_services}
 use Rattle.fields.specs.ServiceTexts.{no_letters}

@@ -14,8 +14,9 @@ use Rattle.text.specs.Answers.{answer, wrong_length}
 use Rattle.text.proofs.Booleans.{clash}
 use Rattle.layout.specs.Layout.{field_of}
 use Rattle.psc.specs.Table.{right_table, wrong_table, Known, holds}
-use Rattle.fields.specs.declared.postcodes.PostcodeReading.{PostcodeReading}
-use Rattle.fields.specs.declared.postcodes.PostcodeReading.TheVariants as Postcode
+use Rattle.fields.specs.Readings.{PostcodeReading}
+use Rattle.fields.specs.declared.postcodes.Postcode.TheVariants as Postcode
+use Rattle.fields.specs.declared.reading.Reading.TheVariants as Reading
 use Rattle.fields.specs.Others.{read_country}
 use Rattle.fields.proofs.PostcodeLaws.{home_exactly, domestic_exactly}
 use Rattle.record.specs.Table.{Case, Rule, first_case, verdict, any_case, broken}
@@ -28,18 +29,18 @@ use Rattle.record.proofs.Turns.{never_given}
 use Rattle.record.proofs.TwoCodes.{one_code, TwoRows, new_code_exactly, old_code_exactly}
 
 -- ---- a postcode that is looked up and not known
-not_known : (known : Known) (p : PostcodeReading) → unlisted known p ≡ true → (n : ℕ) × (p ≡ Postcode.Domestic n) × (known n ≡ false)
-not_known known Postcode.Absent h = absurd (clash h refl)
-not_known known (Postcode.Domestic n) h = (n, refl, not-true (known n) h)
-not_known known (Postcode.Foreign n) h = absurd (clash h refl)
-not_known known Postcode.Malformed h = absurd (clash h refl)
+not_known : (known : Known) (p : PostcodeReading) → unlisted known p ≡ true → (n : ℕ) × (p ≡ Reading.Value (Postcode.Domestic n)) × (known n ≡ false)
+not_known known Reading.Absent h = absurd (clash h refl)
+not_known known (Reading.Value (Postcode.Domestic n)) h = (n, refl, not-true (known n) h)
+not_known known (Reading.Value (Postcode.Foreign n)) h = absurd (clash h refl)
+not_known known Reading.Malformed h = absurd (clash h refl)
 
 -- where any postcode exists none is missing
 any_known : (p : PostcodeReading) → unlisted any_postcode p ≡ false
-any_known Postcode.Absent = refl
-any_known (Postcode.Domestic n) = refl
-any_known (Postcode.Foreign n) = refl
-any_known Postcode.Malformed = refl
+any_known Reading.Absent = refl
+any_known (Reading.Value (Postcode.Domestic n)) = refl
+any_known (Reading.Value (Postcode.Foreign n)) = refl
+any_known Reading.Malformed = refl
 
 -- a row that is broken decides, whatever stands behind
 case_decides : (c : ℕ) (ks : List Case) (a b : Answer) → any_case ks ≡ true → first_case c ks a ≡ first_case c ks b
@@ -83,7 +84,7 @@ module _ (t : Terms) (rec : List ℕ) where
 
       from : NotKnown t.known rec → missing ≡ true
       from n =
-          let d : (address_of rec).postcode ≡ Postcode.Domestic n.number = (domestic_exactly (read_country (field_of rec 6)) (field_of rec 5) n.number).1 ((home_exactly (field_of rec 6)).1 n.home, n.digits) in
+          let d : (address_of rec).postcode ≡ Reading.Value (Postcode.Domestic n.number) = (domestic_exactly (read_country (field_of rec 6)) (field_of rec 5) n.number).1 ((home_exactly (field_of rec 6)).1 n.home, n.digits) in
           ap (unlisted t.known) d ∙ ap not n.unknown
 
   -- ---- 21 and 24, each with its place

@@ -1,18 +1,33 @@
 -- Laws on tables of rules, over any table.
 -- Assumes nothing.
-use Prim.Native.Nat.{ℕ, suc, ◌+◌, ◌≤◌, ◌<◌}
+use Prim.Native.Nat.{ℕ, suc, ◌+◌}
 use mathlib.Core.Path.{◌≡◌, refl, sym, ap, ◌∙◌}
 use mathlib.Core.Bool.{Bool, true, false, cond}
 use mathlib.Core.List.{List, [], ◌∷◌, ◌++◌}
-use native.Mathlib.Nat.{add-zero}
 use native.Mathlib.Omega.{arith}
 use borrow.Author.Tests.{ne_eqb}
 use lib.Dec.{eqb}
-use lib.ListN.{length, get_or}
+use lib.ListN.{length}
+use Rattle.std.proofs.Common.{Result}
+use Rattle.std.specs.Bool.{⊤}
+use Rattle.std.specs.Result.{IsErrAnd}
+use Rattle.std.proofs.lemmas.Result.{err_from_is_err_and}
 use Rattle.text.specs.declared.Answer.{Answer}
-use Rattle.text.specs.Answers.{answer, accepted, or_else}
+use Rattle.text.specs.declared.Refusal.{Refusal}
+use Rattle.text.specs.Answers.{answer, accepted, answer_of, answered, or_else}
+use Rattle.text.proofs.Refusals.{refuses}
 use Rattle.record.specs.Table.{Case, Rule, rule, first_case, verdict, places_from}
-use Rattle.record.specs.Columns.{case_whens, whens, case_codes, code_column, case_places, place_column, first_true}
+
+-- ---- one call behind another, by `?`: what the first refuses stands, and behind one that accepts the next is asked
+pub refused : (q : Result ⊤ Refusal) (e : Refusal) (a b : Answer) → IsErrAnd q (λ y. y ≡ e) → answer_of e ≡ a → answered q ≡ or_else a b
+unfolding or_else
+refused q e a b given said =
+    let p = err_from_is_err_and q given in
+    rw (p.1, p.2, ← said, refuses e)
+
+pub passed : (r a b : Answer) → accepted ≡ a → r ≡ b → r ≡ or_else a b
+unfolding or_else
+passed r a b said next = rw (← said) next
 
 -- ---- one rule behind another
 or_case : (c : ℕ) (ks : List Case) (b : Answer) → (c ≡ 0 → ⊥) → or_else (first_case c ks accepted) b ≡ first_case c ks b
@@ -23,10 +38,6 @@ or_case c (k ∷ ks) b n = go k.when (or_case c ks b n)
     go : (t : Bool) → or_else (first_case c ks accepted) b ≡ first_case c ks b → or_else (cond t (answer c k.place) (first_case c ks accepted)) b ≡ cond t (answer c k.place) (first_case c ks b)
     go true h = rw (ne_eqb c 0 n)
     go false h = h
-
--- cases, then what is behind them
-pub case_then : (c : ℕ) (ks : List Case) (a b : Answer) → (c ≡ 0 → ⊥) → a ≡ b → or_else (first_case c ks accepted) a ≡ first_case c ks b
-case_then c ks a b n e = ap (or_else (first_case c ks accepted)) e ∙ or_case c ks b n
 
 -- every rule has a code
 abbrev pub Coded : List Rule → Type 0
@@ -57,22 +68,7 @@ table_then (x ∷ xs) ys c =
     ∙ ap (or_else (verdict (x ∷ []))) (table_then xs ys c.1)
     ∙ rule_then x (xs ++ ys) c.0
 
--- ---- cases at consecutive places
-pub lowest : (c : ℕ) (bs : List Bool) (p : ℕ) → first_true bs < length bs → first_case c (places_from p bs) accepted ≡ answer c (p + first_true bs)
-unfolding first_true
-lowest c [] p h = absurd (omega arith)
-lowest c (true ∷ bs) p h = rw (add-zero p)
-lowest c (false ∷ bs) p h =
-    let e : p + suc (first_true bs) ≡ suc p + first_true bs = omega arith in
-    rw e (lowest c bs (suc p) (omega arith))
-
-pub no_lowest : (c : ℕ) (bs : List Bool) (p : ℕ) → length bs ≤ first_true bs → first_case c (places_from p bs) accepted ≡ accepted
-unfolding first_true
-no_lowest c [] p h = refl
-no_lowest c (true ∷ bs) p h = absurd (omega arith)
-no_lowest c (false ∷ bs) p h = no_lowest c bs (suc p) (omega arith)
-
--- malformed fields from place p on: 210 at the first
+-- ---- malformed fields from place p on: 210 at the first
 abbrev pub Malformed : ℕ → List Bool → Answer
 Malformed p flags = verdict (rule 210 (places_from p flags) ∷ [])
 
@@ -86,24 +82,3 @@ groups_join p q (x ∷ xs) ys e = go x (groups_join (suc p) q xs ys (omega arith
         → or_else (cond t (answer 210 p) (Malformed (suc p) xs)) (Malformed q ys) ≡ cond t (answer 210 p) (Malformed (suc p) (xs ++ ys))
     go true h = refl
     go false h = h
-
--- ---- a table by its columns
-case_columns : (c : ℕ) (ks : List Case) (ws : List Bool) (cs ps : List ℕ) (b : Answer) → answer (get_or cs (first_true ws) 0) (get_or ps (first_true ws) 0) ≡ b
-    → answer (get_or (case_codes c ks cs) (first_true (case_whens ks ws)) 0) (get_or (case_places ks ps) (first_true (case_whens ks ws)) 0) ≡ first_case c ks b
-unfolding first_true
-case_columns c [] ws cs ps b e = e
-case_columns c (k ∷ ks) ws cs ps b e = go k.when (case_columns c ks ws cs ps b e)
-  where
-    go : (t : Bool) → answer (get_or (case_codes c ks cs) (first_true (case_whens ks ws)) 0) (get_or (case_places ks ps) (first_true (case_whens ks ws)) 0) ≡ first_case c ks b
-        → answer (get_or (case_codes c (k ∷ ks) cs) (cond t 0 (suc (first_true (case_whens ks ws)))) 0) (get_or (case_places (k ∷ ks) ps) (cond t 0 (suc (first_true (case_whens ks ws)))) 0)
-        ≡ cond t (answer c k.place) (first_case c ks b)
-    go true h = refl
-    go false h = h
-
-columns : (rs : List Rule) → answer (get_or (code_column rs) (first_true (whens rs)) 0) (get_or (place_column rs) (first_true (whens rs)) 0) ≡ verdict rs
-unfolding first_true
-columns [] = refl
-columns (r ∷ rs) = case_columns r.code r.cases (whens rs) (code_column rs) (place_column rs) (verdict rs) (columns rs)
-
-pub by_columns : (rs : List Rule) (i : ℕ) → i ≡ first_true (whens rs) → answer (get_or (code_column rs) i 0) (get_or (place_column rs) i 0) ≡ verdict rs
-by_columns rs i e = rw e (columns rs)

@@ -5,8 +5,7 @@ use Rattle.std.specs.Prelude.{ℕ, Bool, cond, not, ◌&&◌, ◌||◌, List, []
 use Rattle.text.specs.declared.Answer.{Answer}
 use Rattle.text.specs.Answers.{wrong_length}
 use Rattle.layout.specs.Layout.{width_of, field_of}
-use Rattle.fields.specs.declared.numbers.NumberReading.{NumberReading}
-use Rattle.fields.specs.declared.others.CountryReading.{CountryReading}
+use Rattle.fields.specs.Readings.{NumberReading, CountryReading}
 use Rattle.fields.specs.Texts.{malformed_text, absent_text}
 use Rattle.fields.specs.Numbers.{read_digits, malformed_number, absent_number}
 use Rattle.fields.specs.Others.{read_country, malformed_country, absent_country}

@@ -4,7 +4,6 @@
 use Rattle.std.specs.Prelude.{ℕ, ◌≡◌, refl, Bool, true, false, not, ◌&&◌, List, [], ◌∷◌, ◌++◌, eqb}
 use Prim.Native.String.{String}
 use Rattle.text.specs.declared.Answer.{Answer}
-use Rattle.text.specs.Bytes.{every, run}
 use Rattle.text.specs.Lists.{same_bytes}
 use Rattle.text.specs.Numbers.{number_after, digits, decimal_places_up_to}
 use Rattle.text.specs.Texts.{bytes, all_hold}
@@ -158,5 +157,5 @@ claims =
     ∷ []
 
 pub shown : all_hold claims ≡ true
-unfolding rises_from right_table holds bytes all_hold every run number_after same_bytes shape_of weighted ends_right right_id parts_of field_of framed days_in read_date read_time filled contains is_host is_mail is_money digits decimal_places_up_to numbers_from codes number_for words has_code with_code added read_by how_many several_sizes asked_of given_of travel_of table record_answer check_answer table_blank_abroad answer_blank_abroad table_numbers_only answer_numbers_only in_field laid_out record_of parcel domestic sent_to cash_on_delivery first_piece first_piece_written_out second_piece cancelled_parcel weighing_nothing served answers names claims consignor_in another_in
+unfolding rises_from right_table holds bytes all_hold number_after same_bytes shape_of weighted ends_right right_id parts_of field_of framed days_in read_date read_time filled contains is_host is_mail is_money digits decimal_places_up_to numbers_from codes number_for words has_code with_code added read_by how_many several_sizes asked_of given_of travel_of table record_answer check_answer table_blank_abroad answer_blank_abroad table_numbers_only answer_numbers_only in_field laid_out record_of parcel domestic sent_to cash_on_delivery first_piece first_piece_written_out second_piece cancelled_parcel weighing_nothing served answers names claims consignor_in another_in
 shown = refl

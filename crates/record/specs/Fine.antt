@@ -4,11 +4,7 @@
 use Rattle.std.specs.Prelude.{ℕ, ◌≡◌, Bool, true, not, ◌&&◌, ◌||◌, List, [], ◌∷◌, length, get_or, take, drop, eqb}
 use Rattle.text.specs.Bytes.{every, is_blank}
 use Rattle.psc.specs.Table.{Known}
-use Rattle.fields.specs.declared.amounts.MoneyReading.{MoneyReading}
-use Rattle.fields.specs.declared.numbers.NumberReading.{NumberReading}
-use Rattle.fields.specs.declared.others.CountryReading.{CountryReading}
-use Rattle.fields.specs.declared.postcodes.PostcodeReading.{PostcodeReading}
-use Rattle.fields.specs.declared.texts.TextReading.{TextReading}
+use Rattle.fields.specs.Readings.{MoneyReading, NumberReading, CountryReading, PostcodeReading, TextReading}
 use Rattle.fields.specs.Texts.{is_text, malformed_text, absent_text}
 use Rattle.fields.specs.Numbers.{absent_number}
 use Rattle.fields.specs.Others.{malformed_country, absent_country, malformed_empty}
@@ -21,7 +17,7 @@ use Rattle.record.specs.declared.readings.Piece.{Piece}
 use Rattle.record.specs.declared.readings.When.{When}
 use Rattle.record.specs.declared.rules.Asked.{Asked}
 use Rattle.record.specs.declared.rules.Travel.{Travel}
-use Rattle.record.specs.Columns.{whens}
+use Rattle.record.specs.Table.{whens}
 use Rattle.record.specs.Readings.{when_of, address_of, street_of, contact_of, goods_of, marks_of, piece_of, tail_of}
 use Rattle.record.specs.Rules.{when_flags, street_flags, contact_flags, goods_flags, piece_flags, malformed, asked_in, unlisted, content_rules}
 

@@ -1,5 +1,4 @@
 pub mod Table
-pub mod Columns
 pub mod Readings
 pub mod Rules
 pub mod Consignors

@@ -2,8 +2,7 @@
 -- Assumes nothing.
 use Rattle.std.specs.Prelude.{ℕ, Bool, true, false, List, set}
 use Rattle.layout.specs.Layout.{width_of, field_of}
-use Rattle.fields.specs.declared.texts.TextReading.{TextReading}
-use Rattle.fields.specs.declared.others.EmptyReading.{EmptyReading}
+use Rattle.fields.specs.Readings.{TextReading, EmptyReading}
 use Rattle.fields.specs.declared.others.StatusReading.{StatusReading}
 use Rattle.fields.specs.declared.others.StatusReading.TheVariants as Status
 use Rattle.fields.specs.Dates.{read_date, read_time}
@@ -21,6 +20,7 @@ use Rattle.record.specs.declared.readings.Goods.{Goods}
 use Rattle.record.specs.declared.readings.Marks.{Marks}
 use Rattle.record.specs.declared.readings.Piece.{Piece}
 use Rattle.record.specs.declared.readings.Tail.{Tail}
+use Rattle.record.specs.declared.readings.Readings.{Readings}
 
 -- field n as a text, and as one that has to be blank
 abbrev pub text_in : List ℕ → ℕ → TextReading
@@ -69,6 +69,19 @@ piece_of rec = record { main = read_main (field_of rec 22); serial = read_count 
 
 abbrev pub tail_of : List ℕ → Tail
 tail_of rec = record { empty = empty_in rec 25; sender = text_in rec 26 }
+
+-- all of them
+abbrev pub readings_of : List ℕ → Readings
+readings_of rec = record {
+  when = when_of rec;
+  address = address_of rec;
+  street = street_of rec;
+  contact = contact_of rec;
+  goods = goods_of rec;
+  marks = marks_of rec;
+  piece = piece_of rec;
+  tail = tail_of rec;
+}
 
 -- ---- in a record that is to be posted a status other than blank is malformed
 abbrev pub malformed_status : Bool → StatusReading → Bool

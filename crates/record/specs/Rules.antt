@@ -7,10 +7,10 @@ use Rattle.text.specs.Lists.{same_bytes}
 use Rattle.ident.specs.Identifier.{right_id}
 use Rattle.layout.specs.Layout.{field_of}
 use Rattle.psc.specs.Table.{right_table, wrong_table, Known, holds}
-use Rattle.fields.specs.declared.amounts.WeightReading.{WeightReading}
+use Rattle.fields.specs.Readings.{WeightReading, PostcodeReading}
 use Rattle.fields.specs.declared.services.Services.{Services}
-use Rattle.fields.specs.declared.postcodes.PostcodeReading.{PostcodeReading}
-use Rattle.fields.specs.declared.postcodes.PostcodeReading.TheVariants as Postcode
+use Rattle.fields.specs.declared.postcodes.Postcode.TheVariants as Postcode
+use Rattle.fields.specs.declared.reading.Reading.TheVariants as Reading
 use Rattle.fields.specs.Dates.{malformed_date, malformed_time}
 use Rattle.fields.specs.Texts.{malformed_text, absent_text}
 use Rattle.fields.specs.Numbers.{malformed_number, absent_number, number_in}
@@ -171,10 +171,10 @@ two_codes with41 without place b service41 = rule with41 (at place (b && service
 
 -- a domestic postcode that doesn't exist; a foreign one is not looked up
 abbrev pub unlisted : Known → PostcodeReading → Bool
-unlisted known Postcode.Absent = false
-unlisted known (Postcode.Domestic n) = not (known n)
-unlisted known (Postcode.Foreign n) = false
-unlisted known Postcode.Malformed = false
+unlisted known Reading.Absent = false
+unlisted known (Reading.Value (Postcode.Domestic n)) = not (known n)
+unlisted known (Reading.Value (Postcode.Foreign n)) = false
+unlisted known Reading.Malformed = false
 
 abbrev pub postcode_rules : Known → PostcodeReading → Bool → List Rule
 postcode_rules known p service41 = two_codes 21 24 5 (unlisted known p) service41

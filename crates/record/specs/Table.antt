@@ -2,7 +2,8 @@
 -- Assumes nothing.
 use Rattle.std.specs.Prelude.{ℕ, suc, Bool, false, cond, ◌||◌, List, [], ◌∷◌}
 use Rattle.text.specs.declared.Answer.{Answer}
-use Rattle.text.specs.Answers.{answer, accepted}
+use Rattle.text.specs.declared.Refusal.{Refusal}
+use Rattle.text.specs.Answers.{answer, accepted, answer_of}
 
 pub record Case : Type 0 where
   pub when : Bool
@@ -43,6 +44,20 @@ any_case (k ∷ ks) = k.when || any_case ks
 
 abbrev pub broken : Rule → Bool
 broken r = any_case r.cases
+
+-- the conditions of all cases, in their order
+abbrev pub case_whens : List Case → List Bool → List Bool
+case_whens [] rest = rest
+case_whens (k ∷ ks) rest = k.when ∷ case_whens ks rest
+
+abbrev pub whens : List Rule → List Bool
+whens [] = []
+whens (r ∷ rs) = case_whens r.cases (whens rs)
+
+-- a table as the code has it: each case with what it refuses by
+abbrev pub first_broken : List (Bool × Refusal) → Answer
+first_broken [] = accepted
+first_broken (k ∷ ks) = cond k.0 (answer_of k.1) (first_broken ks)
 
 abbrev pub code_of : Rule → ℕ
 code_of r = r.code

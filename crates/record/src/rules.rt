@@ -1,108 +1,46 @@
 // The rules, in the paper's order: those on the form of the fields, then those on what the fields say.
-ghost use Rattle.std.specs.Prelude.{◌≡◌, true, [], ◌∷◌, ◌+◌, ◌<◌, length, get_or};
+ghost use Rattle.std.specs.Prelude.{◌≡◌, true, [], ◌∷◌, cond, get_or};
+ghost use Rattle.text.specs.Answers.{answered};
 ghost use Rattle.psc.specs.Search.{found};
-ghost use Rattle.record.specs.Table.{rule, places_from, verdict};
-ghost use Rattle.record.specs.Columns.{whens};
-ghost use Rattle.record.specs.Readings.{when_of, street_of, tail_of, malformed_status};
-ghost use Rattle.record.specs.Consignors.{with_consignor};
-ghost use Rattle.record.specs.Rules.{when_flags, address_flags, street_flags, contact_flags, goods_flags, marks_flags, piece_flags, tail_flags, early_flags, late_flags, asked_of, given_of, is_set_prefix, travel_of, identifier_rule, form_of, content_of, address_rule, two_codes, postcode_rules, weight_rules, service_rules};
+ghost use Rattle.record.specs.Table.{first_broken, rule, places_from, verdict};
+ghost use Rattle.record.specs.Readings.{malformed_status};
+ghost use Rattle.record.specs.Consignors.{WithConsignor};
+ghost use Rattle.record.specs.Rules.{early_flags, late_flags, malformed, malformed_rule, asked_of, given_of, is_set_prefix, travel_of, identifier_rule, content_of, address_rule, postcode_rules, weight_rules, service_rules};
 
 use crate::RecordCheck;
-use crate::columns::first_true;
-use crate::readings::{
-    Address, Contact, Goods, Marks, Piece, Street, Tail, When, read_street, read_tail, read_when,
-};
-use fields::{PostcodeReading, Services, StatusReading, WeightReading};
-use ident::Consignor;
-use text::{ACCEPTED, Answer};
+use crate::readings::{Address, Piece, Readings};
+use fields::{Postcode, PostcodeReading, Reading, Services, StatusReading, WeightReading};
+use text::Refusal;
+
+// The refusal of the first condition that holds.
+fn first_broken(table: &[(bool, Refusal)]) -> Result<(), Refusal>
+    ensures { answered result ≡ first_broken table.now }
+{
+    for &(broken, refusal) in table {
+        if broken {
+            return Err(refusal);
+        }
+    }
+    Ok(())
+}
 
 // ---- 1 and 210: the form of the fields
 
 // Code 1: field 1 is no right identifier. And whose it is.
+#[tactic(auto, unfolding(ident::specs::Consignor::consignor_in))]
 pub(crate) fn identifier_check(rec: &[u8]) -> RecordCheck
-    ensures { result ≡ with_consignor (verdict (identifier_rule rec.now ∷ [])) rec.now }
+    ensures { WithConsignor (verdict (identifier_rule rec.now ∷ [])) rec.now result }
 {
     match ident::read(layout::field(rec, 1)) {
-        ident::Reading::Right(parts) => RecordCheck {
-            answer: ACCEPTED,
+        Ok(parts) => RecordCheck {
+            answer: Ok(()),
             consignor: parts.whose(),
         },
-        ident::Reading::Refused(answer) => RecordCheck {
-            answer,
-            consignor: Consignor::Nobody,
+        Err(refusal) => RecordCheck {
+            answer: Err(refusal),
+            consignor: None,
         },
     }
-}
-
-// Code 210 at the lowest malformed field, of those from `start` on.
-fn malformed_answer(bad: &[bool], start: u32) -> Answer
-    requires { start + length bad.now < 100 }
-    ensures { result ≡ verdict (rule 210 (places_from start bad.now) ∷ []) }
-{
-    let i = first_true(bad);
-    if i < bad.len() {
-        Answer {
-            code: 210,
-            place: start + i as u32,
-        }
-    } else {
-        ACCEPTED
-    }
-}
-
-fn when_answer(w: When) -> Answer
-    ensures { result ≡ verdict (rule 210 (places_from 2 (when_flags w)) ∷ []) }
-{
-    let date = w.date;
-    let time = w.time;
-    let bad = [date.is_malformed(), time.is_malformed()];
-    malformed_answer(&bad, 2)
-}
-
-fn address_form_answer(a: Address) -> Answer
-    ensures { result ≡ verdict (rule 210 (places_from 4 (address_flags a)) ∷ []) }
-{
-    let name = a.name;
-    let postcode = a.postcode;
-    let country = a.country;
-    let municipality = a.municipality;
-    let bad = [
-        name.is_malformed(),
-        postcode.is_malformed(),
-        country.is_malformed(),
-        municipality.is_malformed(),
-    ];
-    malformed_answer(&bad, 4)
-}
-
-fn street_answer(s: Street) -> Answer
-    ensures { result ≡ verdict (rule 210 (places_from 8 (street_flags s)) ∷ []) }
-{
-    let district = s.district;
-    let street = s.street;
-    let house = s.house;
-    let orientation = s.orientation;
-    let bad = [
-        district.is_malformed(),
-        street.is_malformed(),
-        house.is_malformed(),
-        orientation.is_malformed(),
-    ];
-    malformed_answer(&bad, 8)
-}
-
-fn contact_answer(c: Contact) -> Answer
-    ensures { result ≡ verdict (rule 210 (places_from 12 (contact_flags c)) ∷ []) }
-{
-    let telephone = c.telephone;
-    let mail = c.mail;
-    let empty = c.empty;
-    let bad = [
-        telephone.is_malformed(),
-        mail.is_malformed(),
-        empty.is_malformed(),
-    ];
-    malformed_answer(&bad, 12)
 }
 
 // A fresh record, one that is to be posted, may not be cancelled yet.
@@ -116,150 +54,113 @@ pub(crate) fn malformed_status(r: StatusReading, fresh: bool) -> bool
     }
 }
 
-fn goods_answer(g: Goods, fresh: bool) -> Answer
-    ensures { result ≡ verdict (rule 210 (places_from 15 (goods_flags fresh g)) ∷ []) }
+// Fields 2 to 14.
+fn early_answer(read: Readings) -> Result<(), Refusal>
+    ensures { answered result ≡ verdict (rule 210 (places_from 2 (early_flags read.when read.address read.street read.contact)) ∷ []) }
 {
-    let weight = g.weight;
-    let cash = g.cash;
-    let price = g.price;
-    let services = g.services;
-    let status = g.status;
-    let bad = [
-        weight.is_malformed(),
-        cash.is_malformed(),
-        price.is_malformed(),
-        services.is_malformed(),
-        malformed_status(status, fresh),
-    ];
-    malformed_answer(&bad, 15)
+    first_broken(&[
+        (read.when.date.is_err(), Refusal::Malformed(2)),
+        (read.when.time.is_err(), Refusal::Malformed(3)),
+        (read.address.name.is_malformed(), Refusal::Malformed(4)),
+        (read.address.postcode.is_malformed(), Refusal::Malformed(5)),
+        (read.address.country.is_malformed(), Refusal::Malformed(6)),
+        (
+            read.address.municipality.is_malformed(),
+            Refusal::Malformed(7),
+        ),
+        (read.street.district.is_malformed(), Refusal::Malformed(8)),
+        (read.street.street.is_malformed(), Refusal::Malformed(9)),
+        (read.street.house.is_malformed(), Refusal::Malformed(10)),
+        (
+            read.street.orientation.is_malformed(),
+            Refusal::Malformed(11),
+        ),
+        (
+            read.contact.telephone.is_malformed(),
+            Refusal::Malformed(12),
+        ),
+        (read.contact.mail.is_malformed(), Refusal::Malformed(13)),
+        (read.contact.empty.is_err(), Refusal::Malformed(14)),
+    ])
 }
 
-fn marks_answer(m: Marks) -> Answer
-    ensures { result ≡ verdict (rule 210 (places_from 20 (marks_flags m)) ∷ []) }
+// Fields 15 to 26.
+fn late_answer(read: Readings, fresh: bool) -> Result<(), Refusal>
+    ensures { answered result ≡ verdict (rule 210 (places_from 15 (late_flags fresh read.goods read.marks read.piece read.tail)) ∷ []) }
 {
-    let machine = m.machine;
-    let symbol = m.symbol;
-    let bad = [machine.is_malformed(), symbol.is_malformed()];
-    malformed_answer(&bad, 20)
+    first_broken(&[
+        (read.goods.weight.is_malformed(), Refusal::Malformed(15)),
+        (read.goods.cash.is_malformed(), Refusal::Malformed(16)),
+        (read.goods.price.is_malformed(), Refusal::Malformed(17)),
+        (read.goods.services.is_malformed(), Refusal::Malformed(18)),
+        (
+            malformed_status(read.goods.status, fresh),
+            Refusal::Malformed(19),
+        ),
+        (read.marks.machine.is_malformed(), Refusal::Malformed(20)),
+        (read.marks.symbol.is_malformed(), Refusal::Malformed(21)),
+        (read.piece.main.is_malformed(), Refusal::Malformed(22)),
+        (read.piece.serial.is_malformed(), Refusal::Malformed(23)),
+        (read.piece.pieces.is_malformed(), Refusal::Malformed(24)),
+        (read.tail.empty.is_err(), Refusal::Malformed(25)),
+        (read.tail.sender.is_malformed(), Refusal::Malformed(26)),
+    ])
 }
 
-fn piece_answer(p: Piece) -> Answer
-    ensures { result ≡ verdict (rule 210 (places_from 22 (piece_flags p)) ∷ []) }
+// Code 210 at the lowest malformed field.
+pub(crate) fn form_answer(read: Readings, fresh: bool) -> Result<(), Refusal>
+    ensures { answered result ≡ verdict (malformed_rule (malformed fresh read.when read.address read.street read.contact read.goods read.marks read.piece read.tail) ∷ []) }
 {
-    let main = p.main;
-    let serial = p.serial;
-    let pieces = p.pieces;
-    let bad = [
-        main.is_malformed(),
-        serial.is_malformed(),
-        pieces.is_malformed(),
-    ];
-    malformed_answer(&bad, 22)
-}
-
-fn tail_answer(t: Tail) -> Answer
-    ensures { result ≡ verdict (rule 210 (places_from 25 (tail_flags t)) ∷ []) }
-{
-    let empty = t.empty;
-    let sender = t.sender;
-    let bad = [empty.is_malformed(), sender.is_malformed()];
-    malformed_answer(&bad, 25)
-}
-
-// Fields 2 to 14. Those that no other rule asks for are read here.
-fn early_answer(rec: &[u8], address: Address, contact: Contact) -> Answer
-    ensures { result ≡ verdict (rule 210 (places_from 2 (early_flags (when_of rec.now) address (street_of rec.now) contact)) ∷ []) }
-{
-    let rest = street_answer(read_street(rec)).or_else(contact_answer(contact));
-    let rest = address_form_answer(address).or_else(rest);
-    when_answer(read_when(rec)).or_else(rest)
-}
-
-// Fields 15 to 26, likewise.
-fn late_answer(rec: &[u8], goods: Goods, marks: Marks, piece: Piece, fresh: bool) -> Answer
-    ensures { result ≡ verdict (rule 210 (places_from 15 (late_flags fresh goods marks piece (tail_of rec.now))) ∷ []) }
-{
-    let rest = piece_answer(piece).or_else(tail_answer(read_tail(rec)));
-    let rest = marks_answer(marks).or_else(rest);
-    goods_answer(goods, fresh).or_else(rest)
-}
-
-// Codes 1, which has been asked for, and 210.
-pub(crate) fn form_answer(
-    rec: &[u8],
-    identifier: Answer,
-    address: Address,
-    contact: Contact,
-    goods: Goods,
-    marks: Marks,
-    piece: Piece,
-    fresh: bool,
-) -> Answer
-    requires { identifier ≡ verdict (identifier_rule rec.now ∷ []) }
-    ensures { result ≡ verdict (form_of fresh rec.now address contact goods marks piece) }
-{
-    let early = early_answer(rec, address, contact);
-    let rest = early.or_else(late_answer(rec, goods, marks, piece, fresh));
-    identifier.or_else(rest)
+    early_answer(read)?;
+    late_answer(read, fresh)
 }
 
 // ---- 27, 21, 24, 31 and 34: address, postcode and weight
 
 // Code 27: name or municipality blank, or at home the postcode.
-fn address_answer(a: Address) -> Answer
-    ensures { result ≡ verdict (address_rule a ∷ []) }
+fn address_answer(a: Address) -> Result<(), Refusal>
+    ensures { answered result ≡ verdict (address_rule a ∷ []) }
 {
-    let name = a.name;
-    let postcode = a.postcode;
-    let country = a.country;
-    let municipality = a.municipality;
-    let unplaced = country.is_absent() & postcode.is_absent();
-    if name.is_absent() {
-        return Answer { code: 27, place: 4 };
-    }
-    if unplaced {
-        return Answer { code: 27, place: 5 };
-    }
-    if municipality.is_absent() {
-        return Answer { code: 27, place: 7 };
-    }
-    ACCEPTED
+    first_broken(&[
+        (a.name.is_absent(), Refusal::Blank(4)),
+        (
+            a.country.is_absent() && a.postcode.is_absent(),
+            Refusal::Blank(5),
+        ),
+        (a.municipality.is_absent(), Refusal::Blank(7)),
+    ])
 }
 
-// A refusal that has a code of its own under service 41.
-fn two_codes(with41: u32, without: u32, place: u32, service41: bool) -> Answer
-    ensures { result ≡ verdict (two_codes with41 without place true service41) }
+// What has a code of its own under service 41.
+fn two_codes(with41: Refusal, without: Refusal, service41: bool) -> Refusal
+    ensures { result ≡ cond service41 with41 without }
 {
-    let code = if service41 { with41 } else { without };
-    Answer { code, place }
+    if service41 { with41 } else { without }
 }
 
 // Codes 21 and 24: a domestic postcode that is not in the table. A foreign one is not looked up.
-fn postcode_answer(postcode: PostcodeReading, psc: &[u32], service41: bool) -> Answer
-    ensures { result ≡ verdict (postcode_rules (found psc.now) postcode service41) }
+fn postcode_answer(postcode: PostcodeReading, psc: &[u32], service41: bool) -> Result<(), Refusal>
+    ensures { answered result ≡ verdict (postcode_rules (found psc.now) postcode service41) }
 {
-    let PostcodeReading::Domestic(n) = postcode else {
-        return ACCEPTED;
+    let Reading::Value(Postcode::Domestic(n)) = postcode else {
+        return Ok(());
     };
     if psc::find(psc, n) {
-        ACCEPTED
+        Ok(())
     } else {
-        two_codes(21, 24, 5, service41)
+        Err(two_codes(Refusal::UnlistedUnder41, Refusal::Unlisted, service41))
     }
 }
 
 // Codes 31 and 34: weight absent or zero.
-fn weight_answer(weight: WeightReading, service41: bool) -> Answer
-    ensures { result ≡ verdict (weight_rules weight service41) }
+fn weight_answer(weight: WeightReading, service41: bool) -> Result<(), Refusal>
+    ensures { answered result ≡ verdict (weight_rules weight service41) }
 {
-    let WeightReading::Value(grams) = weight else {
-        return two_codes(31, 34, 15, service41);
+    let refusal = two_codes(Refusal::WeightlessUnder41, Refusal::Weightless, service41);
+    let Reading::Value(grams) = weight else {
+        return Err(refusal);
     };
-    if grams.0 == 0 {
-        two_codes(31, 34, 15, service41)
-    } else {
-        ACCEPTED
-    }
+    if grams.0 == 0 { Err(refusal) } else { Ok(()) }
 }
 
 // ---- 36 to 72: money and services. The fields are named as the rules have them.
@@ -277,28 +178,20 @@ pub struct Asked {
     pub several_sizes: bool,
 }
 
+#[tactic(auto, unfolding(crate::specs::Rules::asked_of))]
 fn asked_of(s: Services) -> Asked
     ensures { result ≡ asked_of s }
 {
-    let service2 = s.has(2);
-    let service4 = s.has(4);
-    let service5 = s.has(5);
-    let service7 = s.has(7);
-    let service34 = s.has(34);
     let service41 = s.has(41);
-    let service45 = s.has(45);
-    let service46 = s.has(46);
-    let service70 = s.has(70);
-    let several = s.has_several_sizes();
     Asked {
-        cash_service: service2 | service4 | service5 | service41,
-        service7,
-        service34,
+        cash_service: s.has(2) || s.has(4) || s.has(5) || service41,
+        service7: s.has(7),
+        service34: s.has(34),
         service41,
-        service45,
-        service46,
-        service70,
-        several_sizes: several,
+        service45: s.has(45),
+        service46: s.has(46),
+        service70: s.has(70),
+        several_sizes: s.has_several_sizes(),
     }
 }
 
@@ -314,27 +207,18 @@ pub struct Given {
     pub mail_filled: bool,
 }
 
-fn given_of(c: Contact, g: Goods, m: Marks) -> Given
-    ensures { result ≡ given_of c g m }
+#[tactic(auto, unfolding(crate::specs::Rules::given_of))]
+fn given_of(read: Readings) -> Given
+    ensures { result ≡ given_of read.contact read.goods read.marks }
 {
-    let cash = g.cash;
-    let price = g.price;
-    let symbol = m.symbol;
-    let telephone = c.telephone;
-    let mail = c.mail;
-    let no_cash = cash.is_absent();
-    let no_price = price.is_absent();
-    let no_symbol = symbol.is_absent();
-    let no_telephone = telephone.is_absent();
-    let no_mail = mail.is_absent();
     Given {
-        cash_absent_or_zero: cash.is_absent_or_zero(),
-        cash_filled: !no_cash,
-        price_absent_or_zero: price.is_absent_or_zero(),
-        price_filled: !no_price,
-        symbol_filled: !no_symbol,
-        telephone_filled: !no_telephone,
-        mail_filled: !no_mail,
+        cash_absent_or_zero: read.goods.cash.is_absent_or_zero(),
+        cash_filled: !read.goods.cash.is_absent(),
+        price_absent_or_zero: read.goods.price.is_absent_or_zero(),
+        price_filled: !read.goods.price.is_absent(),
+        symbol_filled: !read.marks.symbol.is_absent(),
+        telephone_filled: !read.contact.telephone.is_absent(),
+        mail_filled: !read.contact.mail.is_absent(),
     }
 }
 
@@ -351,117 +235,85 @@ pub struct Travel {
 }
 
 // A prefix under which several pieces may travel together.
-fn is_set_prefix(a: u8, b: u8) -> bool
-    ensures { result ≡ is_set_prefix a b }
-{
-    (a == b'B') & (b == b'O')
-        | (a == b'O') & (b == b'V')
-        | (a == b'D') & (b == b'R')
-        | (a == b'N') & (b == b'P')
-}
-
 pub(crate) fn has_set_prefix(id: &[u8]) -> bool
     ensures { result ≡ is_set_prefix (get_or id.now 0 0) (get_or id.now 1 0) }
 {
-    if id.len() < 2 {
-        return false;
-    }
-    is_set_prefix(id[0], id[1])
+    matches!(
+        id,
+        [b'B', b'O', ..] | [b'O', b'V', ..] | [b'D', b'R', ..] | [b'N', b'P', ..]
+    )
 }
 
+#[tactic(auto, unfolding(crate::specs::Rules::travel_of))]
 fn travel_of(rec: &[u8], p: Piece) -> Travel
     ensures { result ≡ travel_of rec.now p }
 {
-    let main = p.main;
-    let serial = p.serial;
-    let pieces = p.pieces;
-    let set_prefix = has_set_prefix(layout::field(rec, 1));
-    let own = ident::same(layout::field(rec, 22), layout::field(rec, 1));
-    let no_main = main.is_absent();
-    let no_serial = serial.is_absent();
-    let no_pieces = pieces.is_absent();
-    let number = serial.number();
-    let count = pieces.number();
+    let identifier = layout::field(rec, 1);
+    let serial = p.serial.number();
     Travel {
-        set_prefix: set_prefix,
-        main_filled: !no_main,
-        serial_filled: !no_serial,
-        pieces_filled: !no_pieces,
-        serial_above_pieces: count < number,
-        serial_is01: number == 1,
-        main_is_own: own,
+        set_prefix: has_set_prefix(identifier),
+        main_filled: !p.main.is_absent(),
+        serial_filled: !p.serial.is_absent(),
+        pieces_filled: !p.pieces.is_absent(),
+        serial_above_pieces: p.pieces.number() < serial,
+        serial_is01: serial == 1,
+        main_is_own: ident::same(layout::field(rec, 22), identifier),
     }
 }
 
-// The rules in their order, case by case, and what stands for no case.
-const SERVICE_CODES: [u32; 17] = [
-    36, 11, 221, 222, 220, 223, 223, 72, 72, 72, 72, 72, 72, 72, 72, 72, 0,
-];
-
-const SERVICE_PLACES: [u32; 17] = [
-    16, 21, 21, 17, 18, 12, 13, 18, 22, 23, 24, 23, 22, 22, 23, 24, 0,
-];
-
-fn service_flags(s: Asked, f: Given, p: Travel) -> [bool; 16]
-    ensures { result ≡ whens (service_rules s f p) }
+// Row by row as the rules have them. By `&` and `|`, since there is nothing to spare where fields are read: `&&` gives each row ways of its own, and of
+// so many the proof didn't close.
+fn service_answer(s: Asked, f: Given, p: Travel) -> Result<(), Refusal>
+    ensures { answered result ≡ verdict (service_rules s f p) }
 {
-    [
-        s.cash_service & f.cash_absent_or_zero | !s.cash_service & f.cash_filled,
-        s.service41 & !f.symbol_filled,
-        f.symbol_filled & !s.cash_service,
-        s.service7 & f.price_absent_or_zero | !s.service7 & f.price_filled,
-        s.service34 & s.service45
-            | s.service34 & s.service46
-            | s.service45 & s.service46
-            | s.several_sizes,
-        (s.service34 | s.service45) & !f.telephone_filled,
-        (s.service45 | s.service46) & !f.mail_filled,
-        s.service70 & !p.set_prefix,
-        s.service70 & !p.main_filled,
-        s.service70 & !p.serial_filled,
-        s.service70 & !p.pieces_filled,
-        s.service70 & p.serial_above_pieces,
-        s.service70 & (p.serial_is01 & !p.main_is_own | !p.serial_is01 & p.main_is_own),
-        !s.service70 & p.main_filled,
-        !s.service70 & p.serial_filled,
-        !s.service70 & p.pieces_filled,
-    ]
-}
-
-fn service_answer(s: Asked, f: Given, p: Travel) -> Answer
-    ensures { result ≡ verdict (service_rules s f p) }
-{
-    let broken = service_flags(s, f, p);
-    let i = first_true(&broken);
-    Answer {
-        code: SERVICE_CODES[i],
-        place: SERVICE_PLACES[i],
-    }
+    first_broken(&[
+        (
+            s.cash_service & f.cash_absent_or_zero | !s.cash_service & f.cash_filled,
+            Refusal::CashOnDelivery,
+        ),
+        (s.service41 & !f.symbol_filled, Refusal::SymbolMissing),
+        (f.symbol_filled & !s.cash_service, Refusal::SymbolUnasked),
+        (
+            s.service7 & f.price_absent_or_zero | !s.service7 & f.price_filled,
+            Refusal::PriceSpecified,
+        ),
+        (
+            s.service34 & s.service45
+                | s.service34 & s.service46
+                | s.service45 & s.service46
+                | s.several_sizes,
+            Refusal::ServicesExclude,
+        ),
+        (
+            (s.service34 | s.service45) & !f.telephone_filled,
+            Refusal::NoticeMissing(12),
+        ),
+        (
+            (s.service45 | s.service46) & !f.mail_filled,
+            Refusal::NoticeMissing(13),
+        ),
+        (s.service70 & !p.set_prefix, Refusal::Travel(18)),
+        (s.service70 & !p.main_filled, Refusal::Travel(22)),
+        (s.service70 & !p.serial_filled, Refusal::Travel(23)),
+        (s.service70 & !p.pieces_filled, Refusal::Travel(24)),
+        (s.service70 & p.serial_above_pieces, Refusal::Travel(23)),
+        (
+            s.service70 & (p.serial_is01 & !p.main_is_own | !p.serial_is01 & p.main_is_own),
+            Refusal::Travel(22),
+        ),
+        (!s.service70 & p.main_filled, Refusal::Travel(22)),
+        (!s.service70 & p.serial_filled, Refusal::Travel(23)),
+        (!s.service70 & p.pieces_filled, Refusal::Travel(24)),
+    ])
 }
 
 // Codes 27 to 72.
-pub(crate) fn content_answer(
-    rec: &[u8],
-    address: Address,
-    contact: Contact,
-    goods: Goods,
-    marks: Marks,
-    piece: Piece,
-    psc: &[u32],
-) -> Answer
-    ensures { result ≡ verdict (content_of (found psc.now) rec.now address contact goods marks piece) }
+pub(crate) fn content_answer(rec: &[u8], read: Readings, psc: &[u32]) -> Result<(), Refusal>
+    ensures { answered result ≡ verdict (content_of (found psc.now) rec.now read.address read.contact read.goods read.marks read.piece) }
 {
-    let postcode = address.postcode;
-    let weight = goods.weight;
-    let services = goods.services;
-    let asked = asked_of(services.services());
-    let service41 = asked.service41;
-    let last = service_answer(
-        asked,
-        given_of(contact, goods, marks),
-        travel_of(rec, piece),
-    );
-    let rest = weight_answer(weight, service41).or_else(last);
-    let rest = postcode_answer(postcode, psc, service41).or_else(rest);
-    address_answer(address).or_else(rest)
+    let asked = asked_of(read.goods.services.services());
+    address_answer(read.address)?;
+    postcode_answer(read.address.postcode, psc, asked.service41)?;
+    weight_answer(read.goods.weight, asked.service41)?;
+    service_answer(asked, given_of(read), travel_of(rec, read.piece))
 }

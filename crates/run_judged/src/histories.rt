@@ -1,359 +1,209 @@
 // A history of one batch: the lengths of its two buffers, four bytes each, a table, then calls, each a byte that says which and an item.
 // After each call a line tells its answer, the counts and the sums of the buffers.
-ghost use Rattle.std.specs.Prelude.{◌≤◌, ◌<◌, ◌≡◌, length};
+ghost use Rattle.std.specs.Prelude.{◌≤◌, length, IfOk};
 
-use crate::items::broken;
+use crate::items::{Item, Stop};
 use crate::printing::{adler, print_line};
 use crate::{items, tables};
-use batch::{Counts, Outcome};
+use batch::Counts;
 use fields::Hellers;
-use posting::Totals;
 use std::io::Read;
-use text::ACCEPTED;
+use text::{Answer, Refusal};
 
-// The next call of a history: which it is, how long its item is, and how long both are together; 0 where there is none.
+// What a call asks for: a call of the batch, something changed behind its back, or another table.
 #[derive(Clone, Copy)]
-struct Head {
-    op: u8,
-    size: usize,
-    length: usize,
+enum Op {
+    Open,
+    Add,
+    Cancel,
+    Amend,
+    Undo,
+    SetFile,
+    SetJournal,
+    SetCount,
+    SetTable,
 }
 
-// How many bytes of a history were answered, 0 where there is nothing to go on with; and behind them the counts, and how many entries the
-// table has.
-#[derive(Clone, Copy)]
-struct Turn {
-    taken: usize,
-    counts: Counts,
-    entries: usize,
+impl TryFrom<u8> for Op {
+    type Error = Stop;
+
+    fn try_from(op: u8) -> Result<Op, Stop> {
+        match op {
+            0 => Ok(Op::Open),
+            1 => Ok(Op::Add),
+            2 => Ok(Op::Cancel),
+            3 => Ok(Op::Amend),
+            4 => Ok(Op::Undo),
+            5 => Ok(Op::SetFile),
+            6 => Ok(Op::SetJournal),
+            7 => Ok(Op::SetCount),
+            8 => Ok(Op::SetTable),
+            _ => Err(Stop::CutShort),
+        }
+    }
 }
 
 // ---- what is changed behind the batch's back
 
 // The item is an offset in four bytes and the byte to stand there.
 fn set_byte(buffer: &mut [u8], item: &[u8]) {
-    if item.len() == 5 {
-        let at = items::four_at(item, 0);
-        if at < buffer.len() {
-            buffer[at] = item[4];
+    if let [a, b, c, d, byte] = item {
+        let at = u32::from_le_bytes([*a, *b, *c, *d]) as usize;
+        if let Some(place) = buffer.get_mut(at) {
+            *place = *byte;
         }
     }
 }
 
-fn counts_with(c: Counts, which: u8, value: u64) -> Counts {
-    let t = c.totals;
-    let cash = t.cash;
-    let price = t.price;
-    let totals = Totals {
-        live: if which == 0 { value } else { t.live },
-        cancelled: if which == 1 { value } else { t.cancelled },
-        cash: Hellers(if which == 2 { value } else { cash.0 }),
-        price: Hellers(if which == 3 { value } else { price.0 }),
-    };
-    Counts {
-        totals,
-        held: if which == 4 { value as usize } else { c.held },
-        used: if which == 5 { value as usize } else { c.used },
-    }
-}
-
 // The item is which count, in one byte, and its value in eight.
-fn set_count(c: Counts, item: &[u8]) -> Counts {
-    if item.len() != 9 {
-        return c;
+fn set_count(counts: Counts, item: &[u8]) -> Counts {
+    let mut c = counts;
+    if let [which, value @ ..] = item {
+        if let Ok(value) = <[u8; 8]>::try_from(value) {
+            let value = u64::from_le_bytes(value);
+            match *which {
+                0 => c.totals.live = value,
+                1 => c.totals.cancelled = value,
+                2 => c.totals.cash = Hellers(value),
+                3 => c.totals.price = Hellers(value),
+                4 => c.held = value as usize,
+                5 => c.used = value as usize,
+                _ => {},
+            }
+        }
     }
-    counts_with(c, item[0], items::eight_at(item, 1))
+    c
 }
 
-fn spoiled(counts: Counts) -> Outcome {
-    Outcome {
-        answer: ACCEPTED,
-        counts,
+// ---- the batch
+
+// The lent buffers of a batch, and its counts.
+#[derive(Drop)]
+struct Batch<'a> {
+    file: &'a mut [u8],
+    journal: &'a mut [u8],
+    counts: Counts,
+}
+
+impl Batch<'_> {
+    // Refused, a call leaves the counts as they are; an `open` has none then.
+    fn serve(&mut self, op: Op, item: &[u8], psc: &[u32]) -> Result<(), Refusal> {
+        let c = self.counts;
+        let served = match op {
+            Op::Open => {
+                self.counts = Counts::default();
+                batch::open(self.file, self.journal)
+            },
+            Op::Add => batch::add(self.file, self.journal, c, item, psc),
+            Op::Cancel => batch::cancel(self.file, self.journal, c, item, psc),
+            Op::Amend => batch::amend(self.file, self.journal, c, item, psc),
+            Op::Undo => batch::undo(self.file, self.journal, c, psc),
+            Op::SetFile => {
+                set_byte(self.file, item);
+                Ok(c)
+            },
+            Op::SetJournal => {
+                set_byte(self.journal, item);
+                Ok(c)
+            },
+            Op::SetCount => Ok(set_count(c, item)),
+            Op::SetTable => Ok(c),
+        };
+        self.counts = served?;
+        Ok(())
+    }
+
+    fn print<R: Print>(&self, rt: &R, served: Result<(), Refusal>) -> Result<(), Stop> {
+        let answer = Answer::from(served);
+        let c = self.counts;
+        let t = c.totals;
+        let cash = t.cash;
+        let price = t.price;
+        print_line(
+            rt,
+            &[
+                u64::from(answer.code),
+                u64::from(answer.place),
+                t.live,
+                t.cancelled,
+                cash.0,
+                price.0,
+                c.held as u64,
+                c.used as u64,
+                adler(self.file),
+                adler(self.journal),
+            ],
+        )
     }
 }
 
 // ---- the calls
 
-fn serve(
-    op: u8,
-    file: &mut [u8],
-    journal: &mut [u8],
-    c: Counts,
-    item: &[u8],
-    psc: &[u32],
-) -> Outcome {
-    match op {
-        0 => batch::open(file, journal),
-        1 => batch::add(file, journal, c, item, psc),
-        2 => batch::cancel(file, journal, c, item, psc),
-        3 => batch::amend(file, journal, c, item, psc),
-        4 => batch::undo(file, journal, c, psc),
-        5 => {
-            set_byte(file, item);
-            spoiled(c)
-        }
-        6 => {
-            set_byte(journal, item);
-            spoiled(c)
-        }
-        _ => spoiled(set_count(c, item)),
-    }
-}
-
-fn print_outcome<R: Print>(rt: &R, outcome: Outcome, file: &[u8], journal: &[u8]) -> bool {
-    let answer = outcome.answer;
-    let c = outcome.counts;
-    let t = c.totals;
-    let cash = t.cash;
-    let price = t.price;
-    print_line(
-        rt,
-        &[
-            answer.code as u64,
-            answer.place as u64,
-            t.live,
-            t.cancelled,
-            cash.0,
-            price.0,
-            c.held as u64,
-            c.used as u64,
-            adler(file),
-            adler(journal),
-        ],
-    )
-}
-
-// How long a call with such an item is; 0 where a history of so many bytes has none such.
-fn call_length(op: u8, size: usize, left: usize) -> usize
-    requires { size < 4294967296 }
-    ensures { result ≤ left }
-{
-    if 8 < op || left < size + 5 {
-        return 0;
-    }
-    size + 5
-}
-
-// Reads what announces a call, in a history that has so many bytes left.
-fn next_call<F: Read>(input: &mut F, left: usize) -> Head
-    ensures { result.length ≤ left }
-{
-    let mut bytes = [0u8; 5];
-    if items::read_full(input, &mut bytes) < 5 {
-        return Head {
-            op: 0,
-            size: 0,
-            length: 0,
-        };
-    }
-    let op = bytes[0];
-    let size = items::four_bytes(&[bytes[1], bytes[2], bytes[3], bytes[4]]);
-    Head {
-        op,
-        size,
-        length: call_length(op, size, left),
-    }
-}
-
-// The turn of a call whose line was printed, or could not be.
-fn turn_of(printed: bool, head: Head, counts: Counts, entries: usize) -> Turn
-    ensures { (result.taken ≤ head.length) × (result.entries ≡ entries) }
-{
-    Turn {
-        taken: if printed { head.length } else { 0 },
-        counts,
-        entries,
-    }
-}
-
-// Call 8: the table in its item holds from now on. What stands behind that there is passed over.
-fn set_table<R: Print + Eprint, F: Read>(
-    rt: &R,
-    input: &mut F,
-    head: Head,
-    path: &str,
-    file: &[u8],
-    journal: &[u8],
-    table: &mut [u32],
-    c: Counts,
-) -> Turn
-    ensures { (result.taken ≤ head.length) × (result.entries ≤ length table.new) }
-{
-    let front = tables::take(rt, input, head.size, path, table);
-    let read = front.whole && (items::skip(input, front.left) || broken(rt, path));
-    turn_of(
-        read && print_outcome(rt, spoiled(c), file, journal),
-        head,
-        c,
-        front.entries,
-    )
-}
-
-// Serves a call whose item is in the buffer, and prints its line.
-fn answer_taken<R: Print>(
-    rt: &R,
-    head: Head,
-    file: &mut [u8],
-    journal: &mut [u8],
-    c: Counts,
-    item: &[u8],
-    psc: &[u32],
-) -> Turn
-    ensures { (result.taken ≤ head.length) × (result.entries ≡ length psc.now) }
-{
-    let outcome = serve(head.op, file, journal, c, item, psc);
-    let printed = print_outcome(rt, outcome, file, journal);
-    let counts = outcome.counts;
-    turn_of(printed, head, counts, psc.len())
-}
-
-// Reads the item of any other call, and answers it by the table that holds.
-fn answer_other<R: Print + Eprint, F: Read>(
-    rt: &R,
-    input: &mut F,
-    head: Head,
-    path: &str,
-    file: &mut [u8],
-    journal: &mut [u8],
-    c: Counts,
-    psc: &[u32],
-) -> Turn
-    ensures { (result.taken ≤ head.length) × (result.entries ≡ length psc.now) }
-{
-    // One byte more than a record has: what is longer is none, and no identifier either, whatever follows.
-    let mut item = [0u8; 400];
-    let taken = items::take_item(rt, input, head.size, path, &mut item);
-    let n = taken.put;
-    if !taken.whole {
-        return turn_of(false, head, c, psc.len());
-    }
-    answer_taken(rt, head, file, journal, c, &item[..n], psc)
-}
-
-fn answer_call<R: Print + Eprint, F: Read>(
-    rt: &R,
-    input: &mut F,
-    left: usize,
-    path: &str,
-    file: &mut [u8],
-    journal: &mut [u8],
+// Reads the item of a call, and serves it by the table that holds: of the lent one, so many entries. Gives how many hold from then on.
+// The number stands beside the table: a slice of it would still lend the table when the next one is read into it.
+fn serve_call<F: Read>(
+    batch: &mut Batch<'_>,
+    op: Op,
+    mut item: Item<'_, F>,
     table: &mut [u32],
     entries: usize,
-    c: Counts,
-) -> Turn
+) -> Result<(Result<(), Refusal>, usize), Stop>
     requires { entries ≤ length table.old }
-    ensures { (result.taken ≤ left) × (result.entries ≤ length table.new) }
+    ensures { IfOk result (λ r. r.1 ≤ length table.new) }
 {
-    let head = next_call(input, left);
-    if head.length == 0 {
-        return turn_of(broken(rt, path), head, c, entries);
+    if let Op::SetTable = op {
+        // what stands behind the table in its item is passed over
+        let entries = tables::read(&mut item, table)?.len();
+        item.skip()?;
+        return Ok((Ok(()), entries));
     }
-    if head.op == 8 {
-        return set_table(rt, input, head, path, file, journal, table, c);
-    }
-    answer_other(rt, input, head, path, file, journal, c, &table[..entries])
+    // One byte more than a record has: what is longer is none, and no identifier either, whatever follows.
+    let mut bytes = [0u8; 400];
+    let bytes = item.take(&mut bytes)?;
+    Ok((batch.serve(op, bytes, &table[..entries]), entries))
 }
 
-fn no_counts() -> Counts {
-    let totals = Totals {
-        live: 0,
-        cancelled: 0,
-        cash: Hellers(0),
-        price: Hellers(0),
-    };
-    Counts {
-        totals,
-        held: 0,
-        used: 0,
-    }
-}
-
-// Reads the table that stands before the calls, and answers them. Where it is not whole, nothing is left.
-fn answer_calls<R: Print + Eprint, F: Read>(
+// Reads the table that stands before the calls, and answers them.
+fn answer_calls<R: Print, F: Read>(
     rt: &R,
-    input: &mut F,
-    size: usize,
-    path: &str,
+    mut item: Item<'_, F>,
     file: &mut [u8],
     journal: &mut [u8],
     table: &mut [u32],
-) -> bool {
-    let front = tables::take(rt, input, size, path, table);
-    let mut left = front.left;
-    let mut counts = no_counts();
-    let mut entries = front.entries;
-    while 0 < left {
-        let turn = answer_call(rt, input, left, path, file, journal, table, entries, counts);
-        if turn.taken == 0 {
-            return false;
+) -> Result<(), Stop> {
+    let mut entries = tables::read(&mut item, table)?.len();
+    let mut batch = Batch {
+        file,
+        journal,
+        counts: Counts::default(),
+    };
+    while 0 < item.left {
+        let [op] = item.bytes::<1>()?;
+        let size = u32::from_le_bytes(item.bytes()?) as usize;
+        if item.left < size {
+            return Err(Stop::CutShort);
         }
-        left -= turn.taken;
-        counts = turn.counts;
-        entries = turn.entries;
+        item.left -= size;
+        let call = Item {
+            input: &mut *item.input,
+            left: size,
+        };
+        let (served, held) = serve_call(&mut batch, Op::try_from(op)?, call, table, entries)?;
+        entries = held;
+        batch.print(rt, served)?;
     }
-    front.whole
-}
-
-// ---- the buffers
-
-fn answer_with_table<R: Print + Eprint, F: Read>(
-    rt: &R,
-    input: &mut F,
-    size: usize,
-    path: &str,
-    file: &mut [u8],
-    journal: &mut [u8],
-) -> bool {
-    let mut table = [0u32; tables::PLACES];
-    answer_calls(rt, input, size, path, file, journal, &mut table)
-}
-
-// Each byte of the file is 7 before the first call.
-fn answer_with_file<R: Print + Eprint, F: Read>(
-    rt: &R,
-    input: &mut F,
-    size: usize,
-    path: &str,
-    n: usize,
-    journal: &mut [u8],
-) -> bool
-    requires { n ≤ 401000 }
-{
-    let mut file = [7u8; 401000];
-    answer_with_table(rt, input, size, path, &mut file[..n], journal)
-}
-
-// The journal is zeros before the first call.
-fn answer_with_buffers<R: Print + Eprint, F: Read>(
-    rt: &R,
-    input: &mut F,
-    size: usize,
-    path: &str,
-    n: usize,
-    m: usize,
-) -> bool
-    requires { (n ≤ 401000) × (m ≤ 1048577) }
-{
-    let mut journal = [0u8; 1048577];
-    answer_with_file(rt, input, size, path, n, &mut journal[..m])
+    Ok(())
 }
 
 // The buffers may be longer than those of a good batch: the file by a record, the journal by a byte.
-pub(crate) fn answer<R: Print + Eprint, F: Read>(
-    rt: &R,
-    input: &mut F,
-    size: usize,
-    path: &str,
-) -> bool {
-    let mut lengths = [0u8; 8];
-    let got = items::read_full(input, &mut lengths);
-    if size < 8 || got < 8 {
-        return broken(rt, path);
-    }
-    let n = items::four_bytes(&[lengths[0], lengths[1], lengths[2], lengths[3]]);
-    let m = items::four_bytes(&[lengths[4], lengths[5], lengths[6], lengths[7]]);
-    if 401000 < n || 1048577 < m {
-        return items::too_long(rt, path);
-    }
-    answer_with_buffers(rt, input, size - 8, path, n, m)
+// Before the first call each byte of the file is 7, and the journal is zeros.
+pub(crate) fn answer<R: Print, F: Read>(rt: &R, mut item: Item<'_, F>) -> Result<(), Stop> {
+    let n = u32::from_le_bytes(item.bytes()?) as usize;
+    let m = u32::from_le_bytes(item.bytes()?) as usize;
+    let mut file = [7u8; 401000];
+    let mut journal = [0u8; 1048577];
+    let mut table = [0u32; tables::PLACES];
+    let file = items::front(&mut file, n)?;
+    let journal = items::front(&mut journal, m)?;
+    answer_calls(rt, item, file, journal, &mut table)
 }

@@ -1,163 +1,101 @@
 // Files of items: four bytes of length, little-endian, and the bytes, one item behind the other.
 // An item's bytes go into a buffer that the caller lends, and so none is too long for the heap.
-ghost use Rattle.std.specs.Prelude.{◌+◌, ◌≤◌, ◌<◌, length};
-ghost use Rattle.streams.specs.Counts.{IsPrefixLen};
+ghost use Rattle.std.specs.Prelude.{◌+◌, ◌≡◌, length, min, OnOk, IfOk};
 
+use std::io;
 use std::io::Read;
 
-// What stands next in a file.
+// Why no more items of a file are answered.
 #[derive(Clone, Copy)]
-pub(crate) enum Next {
-    // An item of so many bytes.
-    Length(usize),
-    // Nothing: the file ends here.
-    End,
+pub(crate) enum Stop {
     // The file is cut short, or cannot be read.
-    Broken,
+    CutShort,
+    // An item asks for a longer buffer than there is room for.
+    TooLong,
+    // A line cannot be written.
+    Unwritten,
 }
 
-// What was read of an item: whether all of it was there, and how many bytes of it are in the buffer.
-#[derive(Clone, Copy)]
-pub(crate) struct Taken {
-    pub(crate) whole: bool,
-    pub(crate) put: usize,
+// So many bytes at the front of a lent buffer.
+pub(crate) fn front(buffer: &mut [u8], n: usize) -> Result<&mut [u8], Stop> {
+    buffer.get_mut(..n).ok_or(Stop::TooLong)
 }
 
-// ---- what is told of a file
+// A file of items. Within an item, what cannot be read is taken for the end.
+#[derive(Drop)]
+pub(crate) struct Items<F>(pub(crate) F);
 
-// Where it cannot be told, nothing is.
-fn tell<R: Eprint>(rt: &R, path: &str, what: &str) {
-    let _ = eprintln!(rt; "{path} {what}");
-}
-
-// Gives false: there is nothing to go on with.
-pub(crate) fn broken<R: Eprint>(rt: &R, path: &str) -> bool {
-    tell(rt, path, "is cut short or cannot be read");
-    false
-}
-
-// Likewise.
-pub(crate) fn too_long<R: Eprint>(rt: &R, path: &str) -> bool {
-    tell(rt, path, "asks for a longer buffer than there is room for");
-    false
-}
-
-// ---- numbers, the lowest byte first
-
-pub(crate) fn wide(b: u8) -> usize
-    ensures { result < 256 }
-{
-    b as usize
-}
-
-pub(crate) fn four_bytes(b: &[u8; 4]) -> usize
-    ensures { result < 4294967296 }
-{
-    wide(b[0]) + 256 * wide(b[1]) + 65536 * wide(b[2]) + 16777216 * wide(b[3])
-}
-
-// The number in the four bytes from this place on.
-pub(crate) fn four_at(s: &[u8], at: usize) -> usize
-    requires { at + 4 ≤ length s.now }
-    ensures { result < 4294967296 }
-{
-    four_bytes(&[s[at], s[at + 1], s[at + 2], s[at + 3]])
-}
-
-// The number in the eight bytes from this place on.
-pub(crate) fn eight_at(s: &[u8], at: usize) -> u64
-    requires { at + 8 ≤ length s.now }
-{
-    (four_at(s, at) + 4294967296 * four_at(s, at + 4)) as u64
-}
-
-// ---- reading
-
-// How many of so many bytes a buffer has room for.
-fn fitting(count: usize, buf: &[u8]) -> usize
-    ensures { (result ≤ count) × IsPrefixLen result buf.now }
-{
-    if count < buf.len() { count } else { buf.len() }
-}
-
-// Reads until the buffer is full or the file ends, and gives how many bytes it put at the buffer's start. What cannot be read is taken for the end.
-pub(crate) fn read_full<F: Read>(input: &mut F, buf: &mut [u8]) -> usize
-    ensures { IsPrefixLen result buf.new }
-{
-    let mut done = 0;
-    while done < buf.len() {
-        let n = match input.read(&mut buf[done..]) {
-            Ok(n) => n,
-            Err(_) => 0,
-        };
-        if n == 0 {
-            break;
-        }
-        done += n;
+impl<F: Read> Read for Items<F> {
+    fn read(&mut self, buf: &mut [u8]) -> io::Result<usize> {
+        Ok(self.0.read(buf).unwrap_or(0))
     }
-    done
 }
 
-// Reads what announces the next item.
-pub(crate) fn next_length<F: Read>(input: &mut F) -> Next {
+// An item, of which so many bytes are still to be read from its file.
+#[derive(Drop)]
+pub(crate) struct Item<'a, F> {
+    pub(crate) input: &'a mut Items<F>,
+    pub(crate) left: usize,
+}
+
+// The next item of a file; none where the file ends.
+pub(crate) fn next<F: Read>(input: &mut Items<F>) -> Result<Option<Item<'_, F>>, Stop> {
     let mut head = [0u8; 4];
-    match streams::read_full(input, &mut head) {
-        Ok(0) => Next::End,
-        Ok(4) => Next::Length(four_bytes(&head)),
-        _ => Next::Broken,
+    match streams::read_full(&mut input.0, &mut head) {
+        Ok(0) => Ok(None),
+        Ok(4) => Ok(Some(Item {
+            input,
+            left: u32::from_le_bytes(head) as usize,
+        })),
+        _ => Err(Stop::CutShort),
     }
 }
 
-// Reads as many of so many bytes as the lent buffer has room for, and gives how many: fewer where the file ends.
-fn read_some<F: Read>(input: &mut F, count: usize, buf: &mut [u8]) -> usize
-    ensures { result ≤ count }
-{
-    let n = fitting(count, buf);
-    read_full(input, &mut buf[..n])
-}
-
-// Reads past some of so many bytes, and gives how many: none where the file ends.
-fn skip_some<F: Read>(input: &mut F, count: usize) -> usize
-    ensures { result ≤ count }
-{
-    let mut space = [0u8; 4096];
-    read_some(input, count, &mut space)
-}
-
-// Reads past so many bytes; false where the file has fewer.
-pub(crate) fn skip<F: Read>(input: &mut F, count: usize) -> bool {
-    let mut left = count;
-    while 0 < left {
-        let got = skip_some(input, left);
-        if got == 0 {
-            return false;
+impl<F: Read> Item<'_, F> {
+    // Fills the buffer with its next bytes.
+    pub(crate) fn fill(&mut self, buf: &mut [u8]) -> Result<(), Stop>
+        ensures { OnOk result (self.new.left + length buf.new ≡ self.old.left) }
+    {
+        if self.left < buf.len() {
+            return Err(Stop::CutShort);
         }
-        left -= got;
+        self.left -= buf.len();
+        match streams::read_full(&mut *self.input, buf) {
+            Ok(n) if n == buf.len() => Ok(()),
+            _ => Err(Stop::CutShort),
+        }
     }
-    true
-}
 
-// Reads an item's bytes into the lent buffer, and past those that it has no room for. Of an item that is not whole no byte
-// counts as put, and it is told.
-pub(crate) fn take_item<R: Eprint, F: Read>(
-    rt: &R,
-    input: &mut F,
-    size: usize,
-    path: &str,
-    buf: &mut [u8],
-) -> Taken
-    ensures { IsPrefixLen result.put buf.new }
-{
-    let got = read_some(input, size, buf);
-    let room = fitting(size, buf);
-    if got == room && skip(input, size - room) {
-        return Taken {
-            whole: true,
-            put: room,
-        };
+    // Its next so many bytes.
+    pub(crate) fn bytes<const N: usize>(&mut self) -> Result<[u8; N], Stop>
+        ensures { OnOk result (self.new.left + N ≡ self.old.left) }
+    {
+        let mut bytes = [0u8; N];
+        self.fill(&mut bytes)?;
+        Ok(bytes)
     }
-    Taken {
-        whole: broken(rt, path),
-        put: 0,
+
+    // Reads past what is left of it. Each turn goes on by what came, so there is no range to count.
+    pub(crate) fn skip(&mut self) -> Result<(), Stop> {
+        let mut space = [0u8; 4096];
+        while 0 < self.left {
+            let n = self.left.min(space.len());
+            match streams::read_full(&mut *self.input, &mut space[..n]) {
+                Ok(got) if 0 < got => self.left -= got,
+                _ => return Err(Stop::CutShort),
+            }
+        }
+        Ok(())
+    }
+
+    // What is left of it: as many bytes as the buffer has room for stand at its start. The others are read past.
+    pub(crate) fn take<'b>(&mut self, buf: &'b mut [u8]) -> Result<&'b [u8], Stop>
+        ensures { IfOk result (λ front. length front.now ≡ min self.old.left (length buf.old)) }
+    {
+        let n = self.left.min(buf.len());
+        let front = &mut buf[..n];
+        self.fill(front)?;
+        self.skip()?;
+        Ok(front)
     }
 }

@@ -1,5 +1,4 @@
 // Runs judged cases: for each kind whose file of items is there, each item is answered by a line on standard output.
-// The file's name goes along for what is told on standard error.
 #![tactic(auto)]
 
 mod files;
@@ -9,170 +8,85 @@ mod parts;
 mod printing;
 mod tables;
 
-use items::Next;
+use items::{Item, Items, Stop};
 use printing::{print_answer, print_reading};
 use std::io::{ErrorKind, Read};
 use std::rt::Files;
 use std::{fs, io};
 
-// What stands behind the table of an item, and so which call answers it.
-#[derive(Clone, Copy)]
-enum Judged {
-    Record,
-    File,
-    FileToClose,
-}
-
-// What the items of a file are.
-#[derive(Clone, Copy)]
-enum Kind {
-    Identifiers,
-    Parts,
-    UnderTable(Judged),
-    Consignors,
-    Histories,
-}
-
 // A loop has to end, and nothing says that a file does. No file has so many items: each has four bytes at least.
 const MOST: u64 = 4_000_000_000_000_000_000;
 
-fn answer_identifier<R: Print + Eprint, F: Read>(
-    rt: &R,
-    input: &mut F,
-    size: usize,
-    path: &str,
-) -> bool {
+fn answer_identifier<R: Print, F: Read>(rt: &R, mut item: Item<'_, F>) -> Result<(), Stop> {
     // One byte more than an identifier has: what is longer is none, whatever follows.
     let mut bytes = [0u8; 14];
-    let taken = items::take_item(rt, input, size, path, &mut bytes);
-    let n = taken.put;
-    taken.whole && print_answer(rt, ident::check(&bytes[..n]))
+    print_answer(rt, ident::check(item.take(&mut bytes)?))
 }
 
-fn answer_consignor<R: Print + Eprint, F: Read>(
-    rt: &R,
-    input: &mut F,
-    size: usize,
-    path: &str,
-) -> bool {
+fn answer_consignor<R: Print, F: Read>(rt: &R, mut item: Item<'_, F>) -> Result<(), Stop> {
     let mut bytes = [0u8; 14];
-    let taken = items::take_item(rt, input, size, path, &mut bytes);
-    let n = taken.put;
-    taken.whole && print_reading(rt, ident::read(&bytes[..n]))
+    print_reading(rt, ident::read(item.take(&mut bytes)?))
 }
 
-fn answer_record<R: Print + Eprint, F: Read>(
-    rt: &R,
-    input: &mut F,
-    size: usize,
-    path: &str,
-    psc: &[u32],
-) -> bool {
+fn answer_record<R: Print, F: Read>(rt: &R, mut item: Item<'_, F>) -> Result<(), Stop> {
+    let mut table = [0u32; tables::PLACES];
     // One byte more than a record has, likewise.
     let mut bytes = [0u8; 400];
-    let taken = items::take_item(rt, input, size, path, &mut bytes);
-    let n = taken.put;
-    taken.whole && print_answer(rt, record::check(&bytes[..n], psc).answer)
+    let psc = tables::read(&mut item, &mut table)?;
+    print_answer(rt, record::check(item.take(&mut bytes)?, psc).answer)
 }
 
-fn answer_judged<R: Print + Eprint, F: Read>(
-    rt: &R,
-    what: Judged,
-    input: &mut F,
-    size: usize,
-    path: &str,
-    psc: &[u32],
-) -> bool {
-    match what {
-        Judged::Record => answer_record(rt, input, size, path, psc),
-        Judged::File => files::answer(rt, input, size, path, psc, false),
-        Judged::FileToClose => files::answer(rt, input, size, path, psc, true),
-    }
-}
-
-// Takes the table in front of an item, and answers what stands behind it.
-fn answer_behind<R: Print + Eprint, F: Read>(
-    rt: &R,
-    what: Judged,
-    input: &mut F,
-    size: usize,
-    path: &str,
-    table: &mut [u32],
-) -> bool {
-    let front = tables::take(rt, input, size, path, table);
-    let n = front.entries;
-    front.whole && answer_judged(rt, what, input, front.left, path, &table[..n])
-}
-
-fn answer_under_table<R: Print + Eprint, F: Read>(
-    rt: &R,
-    what: Judged,
-    input: &mut F,
-    size: usize,
-    path: &str,
-) -> bool {
-    let mut table = [0u32; tables::PLACES];
-    answer_behind(rt, what, input, size, path, &mut table)
-}
-
-fn answer_item<R: Print + Eprint, F: Read>(
-    rt: &R,
-    kind: Kind,
-    input: &mut F,
-    size: usize,
-    path: &str,
-) -> bool {
-    match kind {
-        Kind::Identifiers => answer_identifier(rt, input, size, path),
-        Kind::Parts => parts::answer(rt, input, size, path),
-        Kind::UnderTable(what) => answer_under_table(rt, what, input, size, path),
-        Kind::Consignors => answer_consignor(rt, input, size, path),
-        Kind::Histories => histories::answer(rt, input, size, path),
-    }
-}
-
-// Answers the next item; false where there is nothing to go on with.
-fn answer_next<R: Print + Eprint, F: Read>(rt: &R, kind: Kind, input: &mut F, path: &str) -> bool {
-    match items::next_length(input) {
-        Next::Length(size) => answer_item(rt, kind, input, size, path),
-        Next::End => false,
-        Next::Broken => items::broken(rt, path),
-    }
-}
-
-fn answer_rest<R: Print + Eprint, F: Read>(rt: &R, kind: Kind, input: &mut F, path: &str) {
-    let mut left = MOST;
-    while 0 < left {
-        if !answer_next(rt, kind, input, path) {
-            return;
+// Answers each item of a file, until there is nothing to go on with.
+fn answer_items<F: Read, A: Fn(Item<'_, F>) -> Result<(), Stop>>(
+    input: &mut Items<F>,
+    answer: A,
+) -> Result<(), Stop>
+    requires { A.IsAlwaysCallable answer }
+{
+    for _ in 0..MOST {
+        match items::next(input)? {
+            Some(item) => answer(item)?,
+            None => return Ok(()),
         }
-        left -= 1;
     }
-}
-
-// The words of a message without the number that std puts behind those of the system.
-fn words(message: &str) -> &str {
-    match message.split_once(" (os error ") {
-        Some((words, _)) => words,
-        None => message,
-    }
+    Ok(())
 }
 
 // Says on standard error why a file could not be opened. Where that cannot be said, nothing is.
+// Each program has its own: no contract can say what is said there, and each public function has a contract.
 fn tell<R: Eprint + AllocGlobal>(rt: &R, path: &str, error: io::Error) {
     let _ = match format!(in rt.alloc(); "{error}") {
         Ok(message) => {
-            let why = words(message.as_str());
+            let why = streams::words(message.as_str());
             eprintln!(rt; "{path}: {why}")
         },
         Err(_) => eprintln!(rt; "{path}: {error}"),
     };
 }
 
+// Likewise, why the rest of a file is not answered. Where a line could not be written, nothing is said.
+fn tell_stop<R: Eprint>(rt: &R, path: &str, stop: Stop) {
+    let _ = match stop {
+        Stop::CutShort => eprintln!(rt; "{path} is cut short or cannot be read"),
+        Stop::TooLong => eprintln!(rt; "{path} asks for a longer buffer than there is room for"),
+        Stop::Unwritten => Ok(()),
+    };
+}
+
 // Answers each item of the file. A kind without a file is not asked for, and so there is nothing to tell.
-fn answer_all<R: Files + Print + Eprint + AllocGlobal>(rt: &R, kind: Kind, path: &str) {
+fn answer_all<R: Files + Eprint + AllocGlobal, A: Fn(Item<'_, R::File>) -> Result<(), Stop>>(
+    rt: &R,
+    path: &str,
+    answer: A,
+)
+    requires { A.IsAlwaysCallable answer }
+{
     match fs::open(rt, path) {
-        Ok(mut input) => answer_rest(rt, kind, &mut input, path),
+        Ok(file) => {
+            if let Err(stop) = answer_items(&mut Items(file), answer) {
+                tell_stop(rt, path, stop);
+            }
+        },
         Err(e) => {
             if e.kind() != ErrorKind::NotFound {
                 tell(rt, path, e);
@@ -183,12 +97,20 @@ fn answer_all<R: Files + Print + Eprint + AllocGlobal>(rt: &R, kind: Kind, path:
 
 // The kinds in the order in which the judged cases' table has them, and our own records behind them.
 fn main(rt: HostRuntime) {
-    answer_all(&rt, Kind::Identifiers, "identifiers.bin");
-    answer_all(&rt, Kind::Parts, "parts.bin");
-    answer_all(&rt, Kind::UnderTable(Judged::Record), "records.bin");
-    answer_all(&rt, Kind::UnderTable(Judged::File), "files.bin");
-    answer_all(&rt, Kind::UnderTable(Judged::FileToClose), "closing.bin");
-    answer_all(&rt, Kind::Consignors, "consignors.bin");
-    answer_all(&rt, Kind::Histories, "histories.bin");
-    answer_all(&rt, Kind::UnderTable(Judged::Record), "rules.bin");
+    answer_all(&rt, "identifiers.bin", |item| answer_identifier(&rt, item));
+    answer_all(&rt, "parts.bin", |item| parts::answer(&rt, item));
+    answer_all(&rt, "records.bin", |item| answer_record(&rt, item));
+    answer_all(&rt, "files.bin", |item| {
+        files::answer(item, |file, psc| {
+            files::print_numbers(&rt, posting::check(file, psc))
+        })
+    });
+    answer_all(&rt, "closing.bin", |item| {
+        files::answer(item, |file, psc| {
+            files::print_break(&rt, closing::check(file, psc))
+        })
+    });
+    answer_all(&rt, "consignors.bin", |item| answer_consignor(&rt, item));
+    answer_all(&rt, "histories.bin", |item| histories::answer(&rt, item));
+    answer_all(&rt, "rules.bin", |item| answer_record(&rt, item));
 }

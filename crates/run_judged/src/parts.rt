@@ -1,49 +1,25 @@
 // The calls below the record, one for each item: its first byte says which, a field asked for, a part read, or one written.
 use crate::items;
-use crate::items::{broken, wide};
+use crate::items::{Item, Stop};
 use crate::printing::{adler, print_line};
-use fields::{
-    CountryReading, DateReading, EmptyReading, Grams, Hellers, MainReading, MoneyReading,
-    NumberReading, ServicesReading, StatusReading, TextReading, TimeReading, WeightReading,
-};
+use fields::{Grams, Hellers, Malformed, Reading, StatusReading};
 use ident::Parts;
 use std::io::Read;
-use text::Answer;
-
-// What is printed of a reading: 0 absent, 1 a value, 2 malformed; then the value as a number, 0 where there is none.
-#[derive(Clone, Copy)]
-struct Shown {
-    how: u64,
-    value: u64,
-}
-
-const ABSENT: Shown = Shown { how: 0, value: 0 };
-
-const MALFORMED: Shown = Shown { how: 2, value: 0 };
-
-fn value(number: u64) -> Shown {
-    Shown {
-        how: 1,
-        value: number,
-    }
-}
+use text::{Answer, Refusal};
 
 // ---- a field asked for
 
 // n in eight bytes, then the record.
-fn answer_request<R: Print + Eprint>(rt: &R, item: &[u8], path: &str) -> bool {
-    if item.len() < 9 {
-        return broken(rt, path);
-    }
-    let n = items::eight_at(item, 1) as usize;
-    let rec = &item[9..];
-    let answer = layout::field_answer(rec, n);
+fn answer_request<R: Print>(rt: &R, item: &[u8]) -> Result<(), Stop> {
+    let (n, rec) = item.split_first_chunk().ok_or(Stop::CutShort)?;
+    let n = u64::from_le_bytes(*n) as usize;
+    let answer = Answer::from(layout::field_answer(rec, n));
     let part = layout::field(rec, n);
     print_line(
         rt,
         &[
-            answer.code as u64,
-            answer.place as u64,
+            u64::from(answer.code),
+            u64::from(answer.place),
             part.len() as u64,
             adler(part),
         ],
@@ -52,225 +28,149 @@ fn answer_request<R: Print + Eprint>(rt: &R, item: &[u8], path: &str) -> bool {
 
 // ---- a part read
 
-fn of_date(r: DateReading) -> Shown {
-    match r {
-        DateReading::Value(ccyymmdd) => value(ccyymmdd),
-        DateReading::Malformed => MALFORMED,
+// A reading of a value that is printed as a number.
+fn numbered<T, N: FnOnce(T) -> u64>(reading: Reading<T>, number: N) -> Reading<u64>
+    requires { N.IsAlwaysCallable number }
+{
+    match reading {
+        Reading::Absent => Reading::Absent,
+        Reading::Value(value) => Reading::Value(number(value)),
+        Reading::Malformed => Reading::Malformed,
     }
 }
 
-fn of_time(r: TimeReading) -> Shown {
-    match r {
-        TimeReading::Value(seconds) => value(seconds),
-        TimeReading::Malformed => MALFORMED,
+// A part that cannot be absent.
+fn there(reading: Result<u64, Malformed>) -> Reading<u64> {
+    match reading {
+        Ok(value) => Reading::Value(value),
+        Err(Malformed) => Reading::Malformed,
     }
 }
 
-fn of_text(r: TextReading) -> Shown {
-    match r {
-        TextReading::Absent => ABSENT,
-        TextReading::Value(length) => value(length as u64),
-        TextReading::Malformed => MALFORMED,
+fn empty(reading: Result<(), Malformed>) -> Reading<u64> {
+    match reading {
+        Ok(()) => Reading::Absent,
+        Err(Malformed) => Reading::Malformed,
     }
 }
 
-fn of_number(r: NumberReading) -> Shown {
-    match r {
-        NumberReading::Absent => ABSENT,
-        NumberReading::Value(n) => value(n),
-        NumberReading::Malformed => MALFORMED,
+fn status(reading: StatusReading) -> Reading<u64> {
+    match reading {
+        StatusReading::Live => Reading::Value(0),
+        StatusReading::Cancelled => Reading::Value(1),
+        StatusReading::Malformed => Reading::Malformed,
     }
 }
 
-fn of_country(r: CountryReading) -> Shown {
-    match r {
-        CountryReading::Absent => ABSENT,
-        CountryReading::Value(first, second) => {
-            value((256 * wide(first) + wide(second)) as u64)
-        },
-        CountryReading::Malformed => MALFORMED,
-    }
-}
-
-fn of_empty(r: EmptyReading) -> Shown {
-    match r {
-        EmptyReading::Absent => ABSENT,
-        EmptyReading::Malformed => MALFORMED,
-    }
-}
-
-fn of_weight(r: WeightReading) -> Shown {
-    match r {
-        WeightReading::Absent => ABSENT,
-        WeightReading::Value(grams) => value(grams.0),
-        WeightReading::Malformed => MALFORMED,
-    }
-}
-
-fn of_money(r: MoneyReading) -> Shown {
-    match r {
-        MoneyReading::Absent => ABSENT,
-        MoneyReading::Value(hellers) => value(hellers.0),
-        MoneyReading::Malformed => MALFORMED,
-    }
-}
-
-fn of_services(r: ServicesReading) -> Shown {
-    match r {
-        ServicesReading::Absent => ABSENT,
-        ServicesReading::Value(_) => value(0),
-        ServicesReading::Malformed => MALFORMED,
-    }
-}
-
-fn of_status(r: StatusReading) -> Shown {
-    match r {
-        StatusReading::Live => value(0),
-        StatusReading::Cancelled => value(1),
-        StatusReading::Malformed => MALFORMED,
-    }
-}
-
-fn of_main(r: MainReading) -> Shown {
-    match r {
-        MainReading::Absent => ABSENT,
-        MainReading::Value(_) => value(0),
-        MainReading::Malformed => MALFORMED,
-    }
-}
-
-fn read_part(n: u8, f: &[u8]) -> Shown {
+fn read_part(n: u8, f: &[u8]) -> Reading<u64> {
     match n {
-        2 => of_date(fields::read_date(f)),
-        3 => of_time(fields::read_time(f)),
-        6 => of_country(fields::read_country(f)),
-        12 => of_number(fields::read_telephone(f)),
-        13 => of_text(fields::read_mail(f)),
-        14 | 25 => of_empty(fields::read_empty(f, layout::width(n as usize))),
-        15 => of_weight(fields::read_weight(f)),
-        16 | 17 => of_money(fields::read_money(f)),
-        18 => of_services(fields::read_services(f)),
-        19 => of_status(fields::read_status(f)),
-        21 => of_number(fields::read_symbol(f)),
-        22 => of_main(fields::read_main(f)),
-        23 | 24 => of_number(fields::read_count(f)),
+        2 => there(fields::read_date(f)),
+        3 => there(fields::read_time(f)),
+        6 => numbered(fields::read_country(f), |c| {
+            256 * u64::from(c.0) + u64::from(c.1)
+        }),
+        12 => fields::read_telephone(f),
+        13 => numbered(fields::read_mail(f), |length| length as u64),
+        14 | 25 => empty(fields::read_empty(f, layout::width(usize::from(n)))),
+        15 => numbered(fields::read_weight(f), |grams| grams.0),
+        16 | 17 => numbered(fields::read_money(f), |hellers| hellers.0),
+        18 => numbered(fields::read_services(f), |_| 0),
+        19 => status(fields::read_status(f)),
+        21 => fields::read_symbol(f),
+        22 => numbered(fields::read_main(f), |_| 0),
+        23 | 24 => fields::read_count(f),
         // the texts
-        _ => of_text(fields::read_text(f, layout::width(n as usize))),
+        _ => numbered(
+            fields::read_text(f, layout::width(usize::from(n))),
+            |length| { length as u64 },
+        ),
     }
 }
 
 // The field's number, then the part. A postcode by itself has no reading: the country decides.
-fn answer_reading<R: Print + Eprint>(rt: &R, item: &[u8], path: &str) -> bool {
-    if item.len() < 2 {
-        return broken(rt, path);
+// 0 is printed of what is absent, 1 of a value, 2 of what is malformed; then the value as a number, 0 where there is none.
+fn answer_reading<R: Print>(rt: &R, item: &[u8]) -> Result<(), Stop> {
+    let (field, part) = match item {
+        [] | [5, ..] => return Err(Stop::CutShort),
+        [field, part @ ..] => (*field, part),
+    };
+    match read_part(field, part) {
+        Reading::Absent => print_line(rt, &[0, 0]),
+        Reading::Value(n) => print_line(rt, &[1, n]),
+        Reading::Malformed => print_line(rt, &[2, 0]),
     }
-    if item[1] == 5 {
-        return broken(rt, path);
-    }
-    let read = read_part(item[1], &item[2..]);
-    print_line(rt, &[read.how, read.value])
 }
 
 // ---- a part written
 
-// What is to be written into the lent part.
-#[derive(Clone, Copy)]
-enum Writing {
-    Weight(WeightReading),
-    Money(MoneyReading),
-    Identifier(Parts),
-}
-
-fn write(part: &mut [u8], what: Writing) -> Answer {
-    match what {
-        Writing::Weight(weight) => fields::write_weight(part, weight),
-        Writing::Money(money) => fields::write_money(part, money),
-        Writing::Identifier(parts) => ident::write(part, parts),
-    }
-}
-
-fn answer_written<R: Print>(rt: &R, part: &mut [u8], what: Writing) -> bool {
-    let answer = write(part, what);
-    print_line(rt, &[answer.code as u64, answer.place as u64, adler(part)])
-}
-
-// Each byte of a lent part is 7 before the call.
-fn answer_writing<R: Print + Eprint>(rt: &R, n: usize, what: Writing, path: &str) -> bool {
-    if 256 < n {
-        return items::too_long(rt, path);
-    }
-    let mut part = [7u8; 256];
-    answer_written(rt, &mut part[..n], what)
-}
-
-fn weight_of(absent: bool, n: u64) -> Writing {
-    if absent {
-        return Writing::Weight(WeightReading::Absent);
-    }
-    Writing::Weight(WeightReading::Value(Grams(n)))
-}
-
-fn money_of(absent: bool, n: u64) -> Writing {
-    if absent {
-        return Writing::Money(MoneyReading::Absent);
-    }
-    Writing::Money(MoneyReading::Value(Hellers(n)))
+// Writes a part of such a length, of which each byte is 7 before.
+fn answer_writing<R: Print, W: FnOnce(&mut [u8]) -> Result<(), Refusal>>(
+    rt: &R,
+    length: [u8; 4],
+    write: W,
+) -> Result<(), Stop>
+    requires { W.IsAlwaysCallable write }
+{
+    let mut bytes = [7u8; 256];
+    let part = items::front(&mut bytes, u32::from_le_bytes(length) as usize)?;
+    let answer = Answer::from(write(part));
+    print_line(
+        rt,
+        &[u64::from(answer.code), u64::from(answer.place), adler(part)],
+    )
 }
 
 // The field's number, the part's length in four bytes, whether it is absent, the number in eight.
-fn answer_field<R: Print + Eprint>(rt: &R, item: &[u8], path: &str) -> bool {
-    if item.len() != 15 {
-        return broken(rt, path);
+fn answer_field<R: Print>(rt: &R, item: &[u8]) -> Result<(), Stop> {
+    let [field, a, b, c, d, absent, n @ ..] = item else {
+        return Err(Stop::CutShort);
+    };
+    let length = [*a, *b, *c, *d];
+    let n = u64::from_le_bytes(<[u8; 8]>::try_from(n).map_err(|_| Stop::CutShort)?);
+    if *field == 15 {
+        let weight = if *absent == 1 {
+            Reading::Absent
+        } else {
+            Reading::Value(Grams(n))
+        };
+        answer_writing(rt, length, |part| fields::write_weight(part, weight))
+    } else {
+        let money = if *absent == 1 {
+            Reading::Absent
+        } else {
+            Reading::Value(Hellers(n))
+        };
+        answer_writing(rt, length, |part| fields::write_money(part, money))
     }
-    let length = items::four_at(item, 2);
-    let absent = item[6] == 1;
-    let n = items::eight_at(item, 7);
-    if item[1] == 15 {
-        return answer_writing(rt, length, weight_of(absent, n), path);
-    }
-    answer_writing(rt, length, money_of(absent, n), path)
 }
 
 // The part's length in four bytes, prefix, last byte, consignor and posting number in eight each.
-fn answer_identifier<R: Print + Eprint>(rt: &R, item: &[u8], path: &str) -> bool {
-    if item.len() != 24 {
-        return broken(rt, path);
-    }
-    let length = items::four_at(item, 1);
-    let parts = Parts {
-        first: item[5],
-        second: item[6],
-        last: item[7],
-        consignor: items::eight_at(item, 8),
-        posting: items::eight_at(item, 16),
+fn answer_identifier<R: Print>(rt: &R, item: &[u8]) -> Result<(), Stop> {
+    let [a, b, c, d, first, second, last, numbers @ ..] = item else {
+        return Err(Stop::CutShort);
     };
-    answer_writing(rt, length, Writing::Identifier(parts), path)
+    let (consignor, posting) = numbers.split_first_chunk().ok_or(Stop::CutShort)?;
+    let posting = <[u8; 8]>::try_from(posting).map_err(|_| Stop::CutShort)?;
+    let parts = Parts {
+        first: *first,
+        second: *second,
+        last: *last,
+        consignor: u64::from_le_bytes(*consignor),
+        posting: u64::from_le_bytes(posting),
+    };
+    answer_writing(rt, [*a, *b, *c, *d], |part| ident::write(part, parts))
 }
 
 // ---- the item
 
-fn answer_taken<R: Print + Eprint>(rt: &R, item: &[u8], path: &str) -> bool {
-    if item.len() == 0 {
-        return broken(rt, path);
-    }
-    match item[0] {
-        0 => answer_request(rt, item, path),
-        1 => answer_reading(rt, item, path),
-        2 => answer_field(rt, item, path),
-        3 => answer_identifier(rt, item, path),
-        _ => broken(rt, path),
-    }
-}
-
 // Room for the byte, a field's number and one byte more than a record has: what is longer is no record and no field.
-pub(crate) fn answer<R: Print + Eprint, F: Read>(
-    rt: &R,
-    input: &mut F,
-    size: usize,
-    path: &str,
-) -> bool {
-    let mut item = [0u8; 409];
-    let taken = items::take_item(rt, input, size, path, &mut item);
-    let n = taken.put;
-    taken.whole && answer_taken(rt, &item[..n], path)
+pub(crate) fn answer<R: Print, F: Read>(rt: &R, mut item: Item<'_, F>) -> Result<(), Stop> {
+    let mut bytes = [0u8; 409];
+    match item.take(&mut bytes)? {
+        [0, request @ ..] => answer_request(rt, request),
+        [1, reading @ ..] => answer_reading(rt, reading),
+        [2, field @ ..] => answer_field(rt, field),
+        [3, identifier @ ..] => answer_identifier(rt, identifier),
+        _ => Err(Stop::CutShort),
+    }
 }

@@ -1,5 +1,5 @@
 -- Of a reader that says which bytes it has left, a buffer of one length is filled in one way only: as many bytes, and the same.
-use Rattle.std.proofs.Common.{◌≡◌, ℕ, ◌+◌, ◌<◌, ◌≤◌, List, ◌++◌, Option, Some, None, arith, length, take, sym, ap, ◌∙◌, length-append, length-take-le}
+use Rattle.std.proofs.Common.{◌≡◌, ℕ, ◌+◌, ◌<◌, ◌≤◌, List, Option, Some, None, arith, length, take, sym, ap, ◌∙◌, length-append, length-take-le}
 use lib.Seq.{take_at}
 use Rattle.streams.specs.Reading.{Came}
 

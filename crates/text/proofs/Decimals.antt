@@ -9,7 +9,7 @@ use native.Mathlib.Omega.{arith}
 use borrow.Author.Tests.{ltb-true, ltb-false, lt-ltb, le-ltb}
 use lib.Dec.{ltb}
 use lib.ListN.{length, get_or}
-use Rattle.text.specs.Bytes.{is_digit, every, all_digits}
+use Rattle.text.specs.Bytes.{is_digit, all_digits}
 use Rattle.text.specs.Numbers.{number_after, number_of, digits, decimal_places_up_to, decimal_places, decimal}
 use Rattle.text.proofs.Numbers.{ten, ten_grows, digit_bounds, length_digits, digits_all, number_digits, number_below, digits_number, digits_beside}
 
@@ -106,7 +106,6 @@ number_large d s h =
     omega (arith, number_first d s)
 
 pub decimal_written : (d : ℕ) (s : List ℕ) → length s ≤ 19 → all_digits (d ∷ s) ≡ true → (1 ≤ length s → d ≡ 48 → ⊥) → decimal (number_of (d ∷ s)) ≡ d ∷ s
-unfolding every
 decimal_written d s short good first =
     let n : ℕ = number_of (d ∷ s) in
     let digit = digit_bounds d ((and-eq-true_iff (is_digit d) (all_digits s)).0 good).0 in
@@ -119,7 +118,6 @@ decimal_written d s short good first =
 
 -- with a leading zero a number is smaller
 number_small : (w : ℕ) (s : List ℕ) → length s ≡ suc w → all_digits s ≡ true → get_or s 0 0 ≡ 48 → number_of s < ten w
-unfolding every
 number_small w [] long good e = absurd (omega arith)
 number_small w (d ∷ s) long good e =
     let rest = number_below w s (omega arith) ((and-eq-true_iff (is_digit d) (all_digits s)).0 good).1 in

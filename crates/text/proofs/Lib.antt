@@ -6,5 +6,7 @@ pub mod Loops
 pub mod Numbers
 pub mod Decimals
 pub mod Runs
+pub mod Chains
 pub mod OneOutcome
 pub mod AnswerLaws
+pub mod Refusals

@@ -3,15 +3,15 @@
 use Prim.Native.Nat.{ℕ, zero, suc, ◌+◌, ◌-◌, ◌*◌, ◌/◌, ◌%◌, ◌≤◌, ◌<◌}
 use mathlib.Core.Path.{◌≡◌, refl, sym, ap, ◌∙◌}
 use mathlib.Core.Bool.{Bool, true, false, not, ◌&&◌, and_assoc, and-true, and-false}
-use lib.Dec.{eqb}
 use mathlib.Core.List.{List, [], ◌∷◌, ◌++◌, append_assoc, append-nil}
 use native.Mathlib.Numerals.{add-one}
 use native.Mathlib.Omega.{arith}
-use borrow.Author.Tests.{eq-eqb, ne_eqb, not-true, not-false}
+use borrow.Author.Tests.{not-true, not-false}
 use mir.Syntax.{w64}
 use mir.Val.{Fits}
-use lib.ListN.{length, get_or, take, drop, set, replicate, length-take, length-set}
-use lib.Seq.{get_or-take, drop-set-lt, get_or-set_same, drop-length}
+use lib.ListN.{length, get_or, drop, set, length-set}
+use lib.Dec.{eqb}
+use lib.Seq.{drop-set-lt, get_or-set_same, drop-length}
 use Rattle.text.specs.Bytes.{every, run}
 use Rattle.text.specs.Lists.{same_bytes}
 use Rattle.text.specs.Numbers.{number_after, digits, decimal_places_up_to}
@@ -22,25 +22,20 @@ use Rattle.text.proofs.Decimals.{decimal_places_one, decimal_places_more}
 -- ---- a test at each byte
 module _ (test : ℕ → Bool) (s : List ℕ) (i : ℕ) (r : Bool) (known : every test (drop i s) ≡ r) where
   pub every_fails : (b : Bool) → i < length s → b ≡ test (get_or s i 0) → not b ≡ true → false ≡ r
-  unfolding every
   every_fails b h e n = rw (step s i h, ← e, not-true b n) at known
 
   pub every_on : (b : Bool) → i < length s → b ≡ test (get_or s i 0) → not b ≡ false → every test (drop (i + 1) s) ≡ r
-  unfolding every
   every_on b h e n = rw (step s i h, ← e, not-false b n) at known
 
   pub every_ends : length s ≤ i → true ≡ r
-  unfolding every
   every_ends h = rw (ended s i h) at known
 
 -- the same with no way out before the end, g saying whether all passed so far
 module _ (test : ℕ → Bool) (s : List ℕ) (i : ℕ) (g r : Bool) (known : (g && every test (drop i s)) ≡ r) where
   pub seen_on : (b : Bool) → i < length s → b ≡ test (get_or s i 0) → (g && b && every test (drop (i + 1) s)) ≡ r
-  unfolding every
   seen_on b h e = and_assoc g b (every test (drop (i + 1) s)) ∙ (rw (step s i h, ← e) at known)
 
   pub seen_all : length s ≤ i → g ≡ r
-  unfolding every
   seen_all h = sym (and-true g) ∙ (rw (ended s i h) at known)
 
 -- ---- the number that the first k digits write
@@ -52,20 +47,14 @@ module _ (n i : ℕ) (known : 9 * n + 207 ≤ 207 * ten i) (most : i ≤ 16) (mo
   pub digit_fits : (v : ℕ) → v < 208 → Fits w64 (n * 10 + v)
   digit_fits v h = record { fits = omega (arith, ten_grows i 15 (omega arith)) }
 
-module _ (k : ℕ) (s : List ℕ) (i n r : ℕ) (known : number_after n (drop i (take k s)) ≡ r) where
-  pub number_on : (v : ℕ) → i < length s → i ≤ k → (i ≡ k → ⊥) → v ≡ get_or s i 0 - 48 → number_after (n * 10 + v) (drop (i + 1) (take k s)) ≡ r
+module _ (s : List ℕ) (i n r : ℕ) (known : number_after n (drop i s) ≡ r) where
+  pub number_on : (v : ℕ) → i < length s → v ≡ get_or s i 0 - 48 → number_after (n * 10 + v) (drop (i + 1) s) ≡ r
   unfolding number_after
-  number_on v h l o e =
-      let long : i < length (take k s) = simp length-take (omega arith) in
-      rw (e, ← get_or-take k s i 0 (omega arith)) (rw (step (take k s) i long) at known)
-
-  pub number_full : i ≡ k → n ≡ r
-  unfolding number_after
-  number_full e = rw (ended (take k s) i (simp length-take (omega arith))) at known
+  number_on v h e = rw e (rw (step s i h) at known)
 
   pub number_ends : length s ≤ i → n ≡ r
   unfolding number_after
-  number_ends h = rw (ended (take k s) i (simp length-take (omega arith))) at known
+  number_ends h = rw (ended s i h) at known
 
 -- ---- digits, written from the last place to the first
 pub digits_start : (s : List ℕ) (n : ℕ) → digits (length s) n ++ drop (length s) s ≡ digits (length s) n
@@ -84,36 +73,6 @@ pub digits_done : (s : List ℕ) (i n : ℕ) → i ≤ 0 → digits i n ++ drop 
 unfolding digits
 digits_done s i n h = let z : i ≡ 0 = omega arith in rw z
 
--- ---- each byte is c
-module _ (c : ℕ) (s : List ℕ) (i : ℕ) (r : Bool) (known : every (λ b. eqb b c) (drop i s) ≡ r) (h : i < length s) where
-  pub all_fails : (get_or s i 0 ≡ c → ⊥) → false ≡ r
-  unfolding every
-  all_fails n = rw (step s i h, ne_eqb (get_or s i 0) c n) at known
-
-  pub all_on : get_or s i 0 ≡ c → every (λ b. eqb b c) (drop (i + 1) s) ≡ r
-  unfolding every
-  all_on e = rw (step s i h, eq-eqb (get_or s i 0) c e) at known
-
--- ---- the bytes at the front that pass a test
-module _ (test : ℕ → Bool) (s : List ℕ) (i r : ℕ) (known : i + run test (drop i s) ≡ r) where
-  pub run_stops : (b : Bool) → i < length s → b ≡ test (get_or s i 0) → not b ≡ true → i ≡ r
-  unfolding run
-  run_stops b h e n =
-      let here : run test (drop i s) ≡ 0 = rw (step s i h, ← e, not-true b n) in
-      omega arith
-
-  pub run_on : (b : Bool) → i < length s → b ≡ test (get_or s i 0) → not b ≡ false → i + 1 + run test (drop (i + 1) s) ≡ r
-  unfolding run
-  run_on b h e n =
-      let here : run test (drop i s) ≡ suc (run test (drop (i + 1) s)) = rw (step s i h, ← e, not-false b n) in
-      omega arith
-
-  pub run_ends : length s ≤ i → i ≡ r
-  unfolding run
-  run_ends h =
-      let here : run test (drop i s) ≡ 0 = rw (ended s i h) in
-      omega arith
-
 -- ---- how many decimal places a number has
 -- c decimal places seen, at most k to come
 module _ (c k n r : ℕ) (known : c + decimal_places_up_to k n ≡ r + 1) where
@@ -129,12 +88,6 @@ pub decimal_places_last : (c n r : ℕ) → c ≡ 20 → c + decimal_places_up_t
 unfolding decimal_places_up_to
 decimal_places_last c n r e known = omega (arith, rw e at known)
 
--- ---- one byte in every place
-pub filled_all : (b : ℕ) (s : List ℕ) (i : ℕ) → length s ≤ i → i ≤ length s → replicate i b ++ drop i s ≡ replicate (length s) b
-filled_all b s i h l =
-    let e : i ≡ length s = omega arith in
-    rw (e, drop-length) (append-nil (replicate (length s) b))
-
 -- ---- same
 pub same_not_long : (a b : List ℕ) → (length a ≡ length b → ⊥) → false ≡ same_bytes a b
 unfolding same_bytes
@@ -143,15 +96,19 @@ same_not_long [] (y ∷ b) n = refl
 same_not_long (x ∷ a) [] n = refl
 same_not_long (x ∷ a) (y ∷ b) n = rw (← same_not_long a b (λ e. n (ap suc e))) (sym (and-false (eqb x y)))
 
-module _ (a b : List ℕ) (i : ℕ) (r : Bool) (known : same_bytes (drop i a) (drop i b) ≡ r) (h : i < length a) (long : length a ≡ length b) where
-  pub same_differs : (get_or a i 0 ≡ get_or b i 0 → ⊥) → false ≡ r
-  unfolding same_bytes
-  same_differs n = rw (step a i h, step b i (omega arith), ne_eqb (get_or a i 0) (get_or b i 0) n) at known
+-- ---- the bytes at the front that pass a test
+module _ (test : ℕ → Bool) (s : List ℕ) (i r : ℕ) (known : i + run test (drop i s) ≡ r) where
+  pub run_stops : (b : Bool) → i < length s → b ≡ test (get_or s i 0) → not b ≡ true → i ≡ r
+  run_stops b h e n =
+      let here : run test (drop i s) ≡ 0 = rw (step s i h, ← e, not-true b n) in
+      omega arith
 
-  pub same_on : get_or a i 0 ≡ get_or b i 0 → same_bytes (drop (i + 1) a) (drop (i + 1) b) ≡ r
-  unfolding same_bytes
-  same_on e = rw (step a i h, step b i (omega arith), eq-eqb (get_or a i 0) (get_or b i 0) e) at known
+  pub run_on : (b : Bool) → i < length s → b ≡ test (get_or s i 0) → not b ≡ false → i + 1 + run test (drop (i + 1) s) ≡ r
+  run_on b h e n =
+      let here : run test (drop i s) ≡ 1 + run test (drop (i + 1) s) = rw (step s i h, ← e, not-false b n) in
+      omega arith
 
-pub same_ends : (a b : List ℕ) (i : ℕ) (r : Bool) → same_bytes (drop i a) (drop i b) ≡ r → length a ≤ i → length a ≡ length b → true ≡ r
-unfolding same_bytes
-same_ends a b i r known h long = rw (ended a i h, ended b i (omega arith)) at known
+  pub run_ends : length s ≤ i → i ≡ r
+  run_ends h =
+      let here : run test (drop i s) ≡ 0 = rw (ended s i h) in
+      omega arith

@@ -41,7 +41,6 @@ pub is_digit_lem : (b : ℕ) → 48 ≤ b → b ≤ 57 → is_digit b ≡ true
 is_digit_lem b p q = rw (le-leb 48 b p, le-leb b 57 q)
 
 pub every_append : (test : ℕ → Bool) (xs ys : List ℕ) → every test (xs ++ ys) ≡ (every test xs && every test ys)
-unfolding every
 every_append test [] ys = refl
 every_append test (x ∷ xs) ys = rw (every_append test xs ys) (sym (and_assoc (test x) (every test xs) (every test ys)))
 
@@ -51,7 +50,7 @@ length_digits zero n = refl
 length_digits (suc w) n = rw length-append (omega (arith, length_digits w (n / 10)))
 
 pub digits_all : (w n : ℕ) → all_digits (digits w n) ≡ true
-unfolding digits every
+unfolding digits
 digits_all zero n = refl
 digits_all (suc w) n =
     rw (every_append is_digit (digits w (n / 10)) ((48 + n % 10) ∷ []), digits_all w (n / 10), is_digit_lem (48 + n % 10) (omega arith) (omega arith))
@@ -86,7 +85,6 @@ module _ (w : ℕ) (s : List ℕ) (long : length s ≡ suc w) (good : all_digits
   front_long = length-take-le w s (omega arith)
 
   both_digits : (all_digits (take w s) ≡ true) × (is_digit (get_or s w 0) ≡ true)
-  unfolding every
   both_digits =
       let all = sym (every_append is_digit (take w s) (get_or s w 0 ∷ [])) ∙ ap all_digits (sym last_split) ∙ good in
       let p = (and-eq-true_iff (all_digits (take w s)) (is_digit (get_or s w 0) && true)).0 all in

@@ -1,27 +1,29 @@
 -- Several bytes at once: a test, or two lists compared, by the first k bytes and the rest; and bytes as one number.
 -- Assumes nothing.
-use Prim.Native.Nat.{ℕ, zero, suc, ◌+◌, ◌-◌, ◌*◌, ◌^◌, ◌≤◌, ◌<◌}
+use Prim.Native.Nat.{ℕ, zero, suc, ◌+◌, ◌-◌, ◌*◌, ◌≤◌, ◌<◌, ◌/◌}
 use mathlib.Core.Path.{◌≡◌, refl, sym, ap, ◌∙◌}
 use mathlib.Core.Bool.{Bool, true, false, not, ◌&&◌, and_assoc, and-eq-true_iff}
-use mathlib.Core.List.{List, [], ◌∷◌}
+use mathlib.Core.List.{List, [], ◌∷◌, ◌++◌}
 use native.Mathlib.Nat.{zero-add}
 use native.Mathlib.Numerals.{add-one}
 use native.Mathlib.Omega.{arith}
-use borrow.Author.Tests.{eq-eqb, ne_eqb, eqb-true, eqb-false, not-true, not-false}
+use borrow.Author.Tests.{not-true, not-false}
 use lib.Dec.{eqb}
-use mir.Syntax.{w8}
+use mir.Syntax.{w8, w64}
 use mir.Val.{Fits}
-use lib.ListN.{length, get_or, take, drop, replicate, length-drop}
-use lib.Seq.{drop-drop, take_all, get_or-drop, drop-length}
-use Rattle.text.specs.Bytes.{every, is_blank, is_zero}
+use lib.ListN.{length, get_or, take, drop, replicate, length-drop, length-append, length-replicate}
+use lib.Seq.{take_all, get_or-drop, length-take-le}
+use Rattle.std.proofs.lemmas.List.{drop-replicate, drop-drop}
+use Rattle.std.specs.Int.{from_le_bytes}
+use Rattle.std.specs.Simd.{first_chunks}
+use Rattle.std.specs.List.{list_all}
+use Rattle.text.specs.Bytes.{every}
 use Rattle.text.specs.Lists.{same_bytes}
-use Rattle.text.specs.Words.{low_first, word_of}
+use Rattle.text.specs.Words.{low_first, word_of, eight_in}
 use Rattle.text.proofs.Booleans.{clash}
-use Rattle.text.proofs.Lists.{step}
 
 -- ---- a test at each byte, k bytes at once
 pub every_split : (test : ℕ → Bool) (k : ℕ) (s : List ℕ) → every test s ≡ (every test (take k s) && every test (drop k s))
-unfolding every
 every_split test zero s = refl
 every_split test (suc k) [] = refl
 every_split test (suc k) (b ∷ s) = rw (every_split test k s) (go (test b))
@@ -94,14 +96,6 @@ both_ends test k s true b long few ea eb = last_tell test k s k b long (rw zero-
 both_ends test k s false b long few ea eb = chunk_fails test s 0 k (every test s) false refl ea refl
 
 -- ---- bytes as one number
-pub low_byte : (b c x y : ℕ) → b < 256 → c < 256 → eqb (b + 256 * x) (c + 256 * y) ≡ (eqb b c && eqb x y)
-low_byte b c x y h l = go (eqb b c) refl (eqb x y) refl
-  where
-    go : (t : Bool) → eqb b c ≡ t → (u : Bool) → eqb x y ≡ u → eqb (b + 256 * x) (c + 256 * y) ≡ (t && u)
-    go true t true u = eq-eqb (b + 256 * x) (c + 256 * y) (let p = eqb-true b c t in let q = eqb-true x y u in omega arith)
-    go true t false u = ne_eqb (b + 256 * x) (c + 256 * y) (λ e. eqb-false x y u (omega arith))
-    go false t u eu = ne_eqb (b + 256 * x) (c + 256 * y) (λ e. eqb-false b c t (omega arith))
-
 -- the number of k + 1 bytes from place i on, j being the next: where the list has ended, the bytes are taken as 0
 low_at : (s : List ℕ) (i j k : ℕ) → j ≡ i + 1 → low_first (take (suc k) (drop i s)) ≡ get_or s i 0 + 256 * low_first (take k (drop j s))
 unfolding low_first
@@ -116,122 +110,70 @@ low_at s i j k e = rw (e, add-one) (on s i k)
     on (x ∷ s) (suc i) k = on s i k
 
 -- ---- word: the sum of eight bytes
-module _ (s : List ℕ) (a b c d e f g k : ℕ) (ea : (a ≡ get_or s 0 0) × (a < 256)) (eb : (b ≡ get_or s 1 0) × (b < 256)) (ec : (c ≡ get_or s 2 0) × (c < 256)) (ed : (d ≡ get_or s 3 0) × (d < 256))
-    (ee : (e ≡ get_or s 4 0) × (e < 256)) (ef : (f ≡ get_or s 5 0) × (f < 256)) (eg : (g ≡ get_or s 6 0) × (g < 256)) (ek : (k ≡ get_or s 7 0) × (k < 256)) where
-  pub word_is : a + b * 256 + c * 65536 + d * 16777216 + e * 4294967296 + f * 1099511627776 + g * 281474976710656 + k * 72057594037927936 ≡ word_of s
-  unfolding low_first
-  word_is = omega (arith, low_at s 0 1 7 refl, low_at s 1 2 6 refl, low_at s 2 3 5 refl, low_at s 3 4 4 refl, low_at s 4 5 3 refl, low_at s 5 6 2 refl, low_at s 6 7 1 refl, low_at s 7 8 0 refl)
-
--- ---- short_word: byte by byte, from the last
--- how many numbers k bytes can write
-unfoldable pub reach : ℕ → ℕ
-reach zero = 1
-reach (suc k) = 256 * reach k
-
-reach_grows : (j k : ℕ) → j ≤ k → reach j ≤ reach k
-unfolding reach
-reach_grows zero zero h = omega arith
-reach_grows zero (suc k) h = omega (arith, reach_grows zero k (omega arith))
-reach_grows (suc j) zero h = absurd (omega arith)
-reach_grows (suc j) (suc k) h = omega (arith, reach_grows j k (omega arith))
-
-pub short_start : (s : List ℕ) → 0 ≡ low_first (drop (length s) s)
+pub word_is : (s : List ℕ) → get_or s 0 0 + get_or s 1 0 * 256 + get_or s 2 0 * 65536 + get_or s 3 0 * 16777216 + get_or s 4 0 * 4294967296 + get_or s 5 0 * 1099511627776 + get_or s 6 0 * 281474976710656 + get_or s 7 0 * 72057594037927936 ≡ word_of s
 unfolding low_first
-short_start s = rw drop-length
+word_is s = omega (arith, low_at s 0 1 7 refl, low_at s 1 2 6 refl, low_at s 2 3 5 refl, low_at s 3 4 4 refl, low_at s 4 5 3 refl, low_at s 5 6 2 refl, low_at s 6 7 1 refl, low_at s 7 8 0 refl)
 
-pub short_first : (s : List ℕ) → 0 < reach (length s - length s)
-unfolding reach
-short_first s =
-    let none : length s - length s ≡ 0 = omega arith in
-    rw none (omega arith)
+-- ---- eight at a time
+-- eight bytes as one number, in the library's word
+pub eight_is_word : (s : List ℕ) → length s ≡ 8 → from_le_bytes w64 s ≡ word_of s
+eight_is_word s long = word_is s
 
-module _ (s : List ℕ) (short : length s < 8) (n i : ℕ) (within : i ≤ length s) (small : n < reach (length s - i)) where
-  -- there is room for a byte more
-  pub short_fits : 0 < i → (b : ℕ) → (b ≡ get_or s (i - 1) 0) × (b < 256) → n * 256 + b < 2 ^ 64
-  unfolding reach
-  short_fits some b eb = omega (arith, reach_grows (length s - i) 6 (omega arith))
+-- zeros behind do not count
+padded : (s : List ℕ) (k : ℕ) → low_first (s ++ replicate k 0) ≡ low_first s
+unfolding low_first
+padded [] zero = refl
+padded [] (suc k) = rw (padded [] k)
+padded (b ∷ s) k = rw (padded s k)
 
-  pub short_shifts : 0 < i → n * 256 < 2 ^ 64
-  unfolding reach
-  short_shifts some = omega (arith, reach_grows (length s - i) 6 (omega arith))
+pub padded_is : (s : List ℕ) → length s < 8 → from_le_bytes w64 (s ++ drop (length s) (replicate 8 0)) ≡ word_of s
+padded_is s short =
+    let whole : length (s ++ replicate (8 - length s) 0) ≡ 8 = rw (length-append, length-replicate) (omega arith) in
+    rw drop-replicate (
+    eight_is_word (s ++ replicate (8 - length s) 0) whole
+    ∙ ap low_first (take_all 8 (s ++ replicate (8 - length s) 0) (omega arith))
+    ∙ padded s (8 - length s)
+    ∙ ap low_first (sym (take_all 8 s (omega arith)))
+    )
 
-  pub short_below : n < 2 ^ 64
-  unfolding reach
-  short_below = omega (arith, reach_grows (length s - i) 7 (omega arith))
+taken : (m j : ℕ) (s : List ℕ) → ((j : ℕ) → get_or s j 0 < 256) → get_or (take m s) j 0 < 256
+taken zero zero s each = omega arith
+taken zero (suc j) s each = omega arith
+taken (suc m) j [] each = each j
+taken (suc m) zero (b ∷ s) each = each 0
+taken (suc m) (suc j) (b ∷ s) each = taken m j s (λ j. each (suc j))
 
-  pub short_small : 0 < i → (b : ℕ) → (b ≡ get_or s (i - 1) 0) × (b < 256) → n * 256 + b < reach (length s - (i - 1))
-  unfolding reach
-  short_small some b eb =
-      let more : length s - (i - 1) ≡ suc (length s - i) = omega arith in
-      rw more (omega arith)
+-- a test of all bytes by k eights, and the rest
+module _ (test word_test : ℕ → Bool) (law : (s : List ℕ) → length s ≡ 8 → ((j : ℕ) → get_or s j 0 < 256) → word_test (low_first s) ≡ every test s) where
+  by_eights : (k : ℕ) (s : List ℕ) → k * 8 ≤ length s → ((j : ℕ) → get_or s j 0 < 256)
+      → every test s ≡ (list_all (λ e. word_test (eight_in e)) (first_chunks 8 k s) && every test (drop (k * 8) s))
+  by_eights zero s h each = refl
+  by_eights (suc k) s h each =
+      let long : length (take 8 s) ≡ 8 = length-take-le 8 s (omega arith) in
+      let bytes : (j : ℕ) → get_or (take 8 s) j 0 < 256 = λ j. taken 8 j s each in
+      let front : word_test (eight_in (take 8 s)) ≡ every test (take 8 s) = ap word_test (eight_is_word (take 8 s) long ∙ ap low_first (take_all 8 (take 8 s) (omega arith))) ∙ law (take 8 s) long bytes in
+      let back = by_eights k (drop 8 s) (rw length-drop (omega arith)) (λ j. rw get_or-drop (each (8 + j))) in
+      let there : drop (k * 8) (drop 8 s) ≡ drop (suc k * 8) s = drop-drop (k * 8) 8 s ∙ ap (λ n. drop n s) (omega arith) in
+      every_split test 8 s ∙ rw (← front, back, there) (sym (and_assoc (word_test (eight_in (take 8 s))) (list_all (λ e. word_test (eight_in e)) (first_chunks 8 k (drop 8 s))) (every test (drop (suc k * 8) s))))
 
-  pub short_on : n ≡ low_first (drop i s) → 0 < i → (b : ℕ) → (b ≡ get_or s (i - 1) 0) × (b < 256) → n * 256 + b ≡ low_first (drop (i - 1) s)
-  unfolding low_first
-  short_on known some b eb =
-      let back : i - 1 + 1 ≡ i = omega arith in
-      rw (step s (i - 1) (omega arith), back, ← eb.0, ← known) (omega arith)
+  module _ (k : ℕ) (s : List ℕ) (h : k * 8 ≤ length s) (each : (j : ℕ) → get_or s j 0 < 256) (b : Bool) (eights : List (List ℕ)) (front : eights ≡ first_chunks 8 k s)
+      (has : b ≡ list_all (λ e. word_test (eight_in e)) eights) where
+    whole : (b && every test (drop (k * 8) s)) ≡ every test s
+    whole = rw (has, front) (sym (by_eights k s h each))
 
-  pub short_is : n ≡ low_first (drop i s) → i ≤ 0 → n ≡ word_of s
-  short_is known none =
-      let z : i ≡ 0 = omega arith in
-      known ∙ rw z (ap low_first (sym (take_all 8 s (omega arith))))
+    pub some_lack : b ≡ false → false ≡ every test s
+    some_lack e = rw e at whole
 
--- ---- bytes told by one number
--- what is known of each lent slice of bytes
+    -- where all eights have it, the last eight bytes tell
+    pub last_tells : b ≡ true → k * 8 ≡ length s / 8 * 8 → 8 ≤ length s → (w : ℕ) (t : Bool) → w ≡ word_of (drop (length s - 8) s) → t ≡ word_test w → t ≡ every test s
+    last_tells e all long w t ew et =
+        let eight : length (take 8 (drop (length s - 8) s)) ≡ 8 = length-take-le 8 (drop (length s - 8) s) (rw length-drop (omega arith)) in
+        let told : t ≡ every test (take 8 (drop (length s - 8) s)) = et ∙ ap word_test ew ∙ law (take 8 (drop (length s - 8) s)) eight (λ j. taken 8 j (drop (length s - 8) s) (λ i. rw get_or-drop (each (length s - 8 + i)))) in
+        last_eight test s (k * 8) t h (rw e at whole) (omega (arith, all)) long told
+
+-- ---- what is known of each lent slice of bytes
 abbrev pub AreBytes : List ℕ → Type 0
 AreBytes s = (j : ℕ) → Fits w8 (get_or s j 0)
 
 pub bytes_behind : (s : List ℕ) (i : ℕ) → AreBytes s → AreBytes (drop i s)
 bytes_behind s i each j = rw get_or-drop (each (i + j))
-
--- the first k bytes are all c exactly where their number is that of k times c
-all_told : (c : ℕ) → c < 256 → (k : ℕ) (s : List ℕ) → k ≤ length s → AreBytes s → eqb (low_first (take k s)) (low_first (replicate k c)) ≡ every (λ b. eqb b c) (take k s)
-unfolding low_first every
-all_told c small zero s h each = refl
-all_told c small (suc k) [] h each = absurd (omega arith)
-all_told c small (suc k) (b ∷ s) h each =
-    low_byte b c (low_first (take k s)) (low_first (replicate k c)) (omega (arith, each 0)) small
-    ∙ ap (λ (t : Bool). eqb b c && t) (all_told c small k s (omega arith) (λ j. each (suc j)))
-
--- so are those from place i on
-all_at : (c : ℕ) → c < 256 → (k : ℕ) (s : List ℕ) (i w : ℕ) → w ≡ low_first (take k (drop i s)) → i + k ≤ length s → AreBytes s
-    → eqb w (low_first (replicate k c)) ≡ every (λ b. eqb b c) (take k (drop i s))
-all_at c small k s i w ew h each = rw ew (all_told c small k (drop i s) (simp length-drop (omega arith)) (bytes_behind s i each))
-
-module _ (s : List ℕ) (i w : ℕ) (ew : (w ≡ word_of (take (length s - i) (drop i s))) × (w < 2 ^ 64)) (h : i + 8 ≤ length s) (each : AreBytes s) where
-  word_at : w ≡ low_first (take 8 (drop i s))
-  word_at = ew.0 ∙ ap word_of (take_all (length s - i) (drop i s) (simp length-drop (omega arith)))
-
-  pub blank8_is : eqb w 2314885530818453536 ≡ is_blank (take 8 (drop i s))
-  unfolding low_first
-  blank8_is = all_at 32 (omega arith) 8 s i w word_at h each
-
-  pub zero8_is : eqb w 0 ≡ every is_zero (take 8 (drop i s))
-  unfolding low_first
-  zero8_is = all_at 0 (omega arith) 8 s i w word_at h each
-
--- four bytes summed as `word` sums eight
-pub blank4_is : (s : List ℕ) (i a b c d : ℕ) → (a ≡ get_or s i 0) × (a < 256) → (b ≡ get_or s (i + 1) 0) × (b < 256) → (c ≡ get_or s (i + 2) 0) × (c < 256) → (d ≡ get_or s (i + 3) 0) × (d < 256)
-    → i + 4 ≤ length s → AreBytes s → eqb (a + b * 256 + c * 65536 + d * 16777216) 538976288 ≡ is_blank (take 4 (drop i s))
-unfolding low_first
-blank4_is s i a b c d ea eb ec ed h each = all_at 32 (omega arith) 4 s i (a + b * 256 + c * 65536 + d * 16777216) sum h each
-  where
-    sum : a + b * 256 + c * 65536 + d * 16777216 ≡ low_first (take 4 (drop i s))
-    sum = omega (arith, low_at s i (i + 1) 3 refl, low_at s (i + 1) (i + 2) 2 (omega arith), low_at s (i + 2) (i + 3) 1 (omega arith), low_at s (i + 3) (i + 4) 0 (omega arith))
-
--- ---- equal bytes told by two numbers
--- the first k bytes are the same exactly where their numbers are
-same_told : (k : ℕ) (a b : List ℕ) → k ≤ length a → k ≤ length b → AreBytes a → AreBytes b → eqb (low_first (take k a)) (low_first (take k b)) ≡ same_bytes (take k a) (take k b)
-unfolding low_first same_bytes
-same_told zero a b h l each-a each-b = refl
-same_told (suc k) [] b h l each-a each-b = absurd (omega arith)
-same_told (suc k) (x ∷ a) [] h l each-a each-b = absurd (omega arith)
-same_told (suc k) (x ∷ a) (y ∷ b) h l each-a each-b =
-    low_byte x y (low_first (take k a)) (low_first (take k b)) (omega (arith, each-a 0)) (omega (arith, each-b 0))
-    ∙ ap (λ (t : Bool). eqb x y && t) (same_told k a b (omega arith) (omega arith) (λ j. each-a (suc j)) (λ j. each-b (suc j)))
-
-pub same8_is : (a b : List ℕ) (i v w : ℕ) → (v ≡ word_of (take (length a - i) (drop i a))) × (v < 2 ^ 64) → (w ≡ word_of (take (length b - i) (drop i b))) × (w < 2 ^ 64)
-    → (i + 8 ≤ length a) × (i + 8 ≤ length b) → AreBytes a → AreBytes b → eqb v w ≡ same_bytes (take 8 (drop i a)) (take 8 (drop i b))
-same8_is a b i v w ev ew h each-a each-b =
-    rw (ev.0, ew.0, take_all (length a - i) (drop i a) (simp length-drop (omega arith)), take_all (length b - i) (drop i b) (simp length-drop (omega arith)))
-    (same_told 8 (drop i a) (drop i b) (simp length-drop (omega arith)) (simp length-drop (omega arith)) (bytes_behind a i each-a) (bytes_behind b i each-b))

@@ -1,5 +1,6 @@
 -- Classes of bytes. A byte is a number below 256.
-use Rattle.std.specs.Prelude.{ℕ, suc, List, [], ◌∷◌, Bool, true, cond, ◌&&◌, leb, eqb}
+use Rattle.std.specs.Prelude.{ℕ, List, Bool, ◌&&◌, leb, eqb}
+use Rattle.std.specs.List.{list_all, prefix_len}
 
 -- 0 to 9
 abbrev pub is_digit : ℕ → Bool
@@ -10,9 +11,8 @@ abbrev pub is_capital : ℕ → Bool
 is_capital b = leb 65 b && leb b 90
 
 -- each byte of a list passes a test
-unfoldable pub every : (ℕ → Bool) → List ℕ → Bool
-every test [] = true
-every test (b ∷ bs) = test b && every test bs
+abbrev pub every : (ℕ → Bool) → List ℕ → Bool
+every test s = list_all test s
 
 abbrev pub all_digits : List ℕ → Bool
 all_digits = every is_digit
@@ -28,6 +28,5 @@ abbrev pub is_zero : ℕ → Bool
 is_zero b = eqb b 0
 
 -- how many bytes at the front pass a test
-unfoldable pub run : (ℕ → Bool) → List ℕ → ℕ
-run test [] = 0
-run test (b ∷ bs) = cond (test b) (suc (run test bs)) 0
+abbrev pub run : (ℕ → Bool) → List ℕ → ℕ
+run test s = prefix_len test s

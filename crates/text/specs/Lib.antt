@@ -5,3 +5,4 @@ pub mod Numbers
 pub mod Words
 pub mod Lists
 pub mod Texts
+pub mod WordTests

@@ -1,22 +1,17 @@
 -- `closing::any_in_set`.
 use native.Mathlib.Omega.{arith}
-use mathlib.Core.Path.{refl}
-use Rattle.text.proofs.Booleans.{clash}
-use Rattle.closing.proofs.LinkWays.{whole_there}
-use Rattle.closing.proofs.Ways.{none_yet, none_on, none_all}
+use mathlib.Core.Path.{◌≡◌, refl, sym, ◌∙◌}
+use Rattle.std.proofs.Common.{rules}
+use Rattle.std.specs.List.{list_any, range_with_len}
+use Rattle.std.proofs.lemmas.Iterator.{YieldsList-from_range}
+use Rattle.std.proofs.lemmas.Iterator.Search.{any_from_yields_List}
+use Rattle.posting.specs.File.{record_at}
+use Rattle.closing.specs.Sets.{in_set}
+use Rattle.closing.proofs.Ways.{none_below}
 use Rattle.closing.proofs.any_in_set.Goals as goal
 
-pub loop-i-init : goal.loop-i-init
-loop-i-init c = (omega arith, search none_yet)
-
-pub record_at-requires : goal.record_at-requires
-record_at-requires c = search whole_there
-
-pub returns-then-in_set : goal.returns-then-in_set
-returns-then-in_set c = λ e. absurd (clash refl e)
-
-pub loop-i-preserved : goal.loop-i-preserved
-loop-i-preserved c = (omega arith, search none_on)
-
 pub returns : goal.returns
-returns c = search none_all
+returns c =
+    let any : c.any.result ≡ list_any (λ i. in_set (record_at c.args.records.now.file.now i)) (range_with_len 0 c.len.result) =
+    any_from_yields_List (λ i. in_set (record_at c.args.records.now.file.now i)) _ _ _ c.any.ensures.ran (YieldsList-from_range 0 c.len.result c.len.result refl (omega arith)) (λ x b q h. (search rules, search rules)) in
+    λ told i l. none_below (λ i. in_set (record_at c.args.records.now.file.now i)) c.len.result (sym any ∙ told) i (omega (arith, c.len.ensures))

@@ -1,26 +1,25 @@
 -- `closing::check`.
-use native.Mathlib.Omega.{arith}
-use Rattle.index.proofs.Slots.{indexed_none}
-use Rattle.closing.proofs.Ways.{file_stands, accepted_whole, accepted_few, no_sets, closing_is, to_link}
+use Rattle.std.proofs.Common.{rules}
+use Rattle.closing.proofs.Ways.{file_stands, accepted_whole, no_sets, sets_whole, set_broken}
 use Rattle.closing.proofs.check.Goals as goal
 
-pub returns-then-answer-ne0 : goal.returns-then-answer-ne0
-returns-then-answer-ne0 c = search file_stands
+pub returns-in_err-totals : goal.returns-in_err-totals
+returns-in_err-totals c = file_stands _ _ _ c.check.ensures _ c.in_err-totals.was _ (search rules)
 
-pub any_in_set-requires : goal.any_in_set-requires
-any_in_set-requires c = search accepted_whole
+pub invariant_of-records : goal.invariant_of-records
+invariant_of-records c = let known = accepted_whole _ _ _ c.check.ensures _ c.in_ok-totals.was in record { whole = known.0; few = known.1 }
 
 pub returns-then-not-any_in_set : goal.returns-then-not-any_in_set
-returns-then-not-any_in_set c = search no_sets
+returns-then-not-any_in_set c = no_sets _ _ _ c.check.ensures _ c.in_ok-totals.was (search rules)
 
-pub closed-requires : goal.closed-requires
-closed-requires c = to_link _ _ _ 63 (search accepted_whole) (omega arith) (indexed_none _ 362 128) (omega arith) (omega arith)
+pub returns-in_err-closed : goal.returns-in_err-closed
+returns-in_err-closed c = set_broken _ _ _ c.check.ensures _ c.in_ok-totals.was _ c.closed.ensures _ c.in_err-closed.was _ (search rules)
 
-pub returns-then-file-lt64 : goal.returns-then-file-lt64
-returns-then-file-lt64 c = search closing_is
+pub returns-in_err-closed-2 : goal.returns-in_err-closed-2
+returns-in_err-closed-2 c = set_broken _ _ _ c.check.ensures _ c.in_ok-totals.was _ c.closed-else-len-lt64.ensures _ c.in_err-closed-2.was _ (search rules)
 
-pub closed-requires-2 : goal.closed-requires-2
-closed-requires-2 c = to_link _ _ _ 999 (search accepted_whole) (search accepted_few) (indexed_none _ 362 2048) (omega arith) (omega arith)
+pub returns-in_ok-closed : goal.returns-in_ok-closed
+returns-in_ok-closed c = sets_whole _ _ _ c.check.ensures _ c.in_ok-totals.was _ c.closed.ensures _ c.in_ok-closed.was
 
-pub returns : goal.returns
-returns c = search closing_is
+pub returns-in_ok-closed-2 : goal.returns-in_ok-closed-2
+returns-in_ok-closed-2 c = sets_whole _ _ _ c.check.ensures _ c.in_ok-totals.was _ c.closed-else-len-lt64.ensures _ c.in_ok-closed-2.was

@@ -1,9 +1,10 @@
 -- `ident::digits_at`.
-use Rattle.ident.proofs.Ways.{eight_fail, eight_pass}
+use Rattle.std.proofs.Common.{rules}
+use Rattle.ident.proofs.Eights.{eights, eights_fail}
 use Rattle.ident.proofs.digits_at.Goals as goal
 
-pub returns-then-not-all_digits : goal.returns-then-not-all_digits
-returns-then-not-all_digits c = search eight_fail
+pub returns-then-all_digits : goal.returns-then-all_digits
+returns-then-all_digits c = search (rules, eights)
 
-pub returns : goal.returns
-returns c = search eight_pass
+pub returns-else-all_digits : goal.returns-else-all_digits
+returns-else-all_digits c = search eights_fail

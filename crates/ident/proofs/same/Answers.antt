@@ -1,20 +1,12 @@
 -- `ident::same`.
-use native.Mathlib.Omega.{arith}
-use Rattle.text.proofs.Loops.{same_not_long}
-use Rattle.ident.proofs.Comparing.{other_word, same_at_end, same_eight_more, same_in_front}
+use Rattle.ident.proofs.Comparing.{other_length, eights_differ, eights_then_front}
 use Rattle.ident.proofs.same.Goals as goal
 
 pub returns-then-a-b : goal.returns-then-a-b
-returns-then-a-b c = search same_not_long
+returns-then-a-b c = search other_length
 
-pub loop-i-init : goal.loop-i-init
-loop-i-init c = (omega arith, search same_at_end)
+pub returns-then-same_eights : goal.returns-then-same_eights
+returns-then-same_eights c = search eights_then_front
 
-pub returns-then-word : goal.returns-then-word
-returns-then-word c = search other_word
-
-pub loop-i-preserved : goal.loop-i-preserved
-loop-i-preserved c = (omega arith, search same_eight_more)
-
-pub returns : goal.returns
-returns c = search same_in_front
+pub returns-else-same_eights : goal.returns-else-same_eights
+returns-else-same_eights c = search eights_differ

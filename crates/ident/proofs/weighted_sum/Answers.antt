@@ -1,24 +1,28 @@
 -- `ident::weighted_sum`.
+use Prim.Native.Nat.{ℕ}
+use mathlib.Core.Path.{◌≡◌, refl}
+use mathlib.Core.List.{List, [], ◌∷◌}
+use mathlib.Core.Logic.{◌⊎◌, ⊎_elim}
 use native.Mathlib.Omega.{arith}
-use native.Mathlib.Nat.{zero-add}
-use Rattle.ident.proofs.Sums.{product_fits, sum_fits, sum_small, sum_on, sum_ends}
+use Rattle.std.proofs.Common.{rules}
+use Rattle.std.proofs.lemmas.Slice.Zip.{Zip-more, either_empty_from_Zip}
+use Rattle.ident.specs.Identifier.{weighted}
 use Rattle.ident.proofs.weighted_sum.Goals as goal
 
-pub loop-i-init : goal.loop-i-init
-loop-i-init c = (omega arith, omega arith, simp zero-add)
+pub loop-weight-preserved : goal.loop-weight-preserved
+unfolding weighted
+loop-weight-preserved c =
+    let turn = Zip-more c.loop-weight.weight-iterator c.next.new.self _ _ c.in-Some.is c.next.ensures.steps in
+    (search rules, search rules)
 
-pub overflow_mul-sum : goal.overflow_mul-sum
-overflow_mul-sum c = search product_fits
-
-pub overflow_add-sum-in-loop-i : goal.overflow_add-sum-in-loop-i
-overflow_add-sum-in-loop-i c = search sum_fits
-
-pub loop-i-preserved : goal.loop-i-preserved
-loop-i-preserved c = (
-  omega arith,
-  search sum_small,
-  search sum_on,
-)
+-- no weight is left, or no digit
+ended : (ws ds : List ℕ) → (ws ≡ []) ⊎ (ds ≡ []) → weighted ws ds ≡ 0
+unfolding weighted
+ended [] ds h = refl
+ended (w ∷ ws) [] h = refl
+ended (w ∷ ws) (d ∷ ds) h = ⊎_elim (λ e. cc) (λ e. cc) h
 
 pub returns : goal.returns
-returns c = search sum_ends
+returns c =
+    let none = ended _ _ (either_empty_from_Zip c.loop-weight.weight-iterator c.next.new.self _ c.in-None.is c.next.ensures.steps) in
+    omega (arith, c.loop-weight.invariant.1)

@@ -1,12 +1,14 @@
 -- `ident::weighted_sum`.
-use Prim.Native.Nat.{◌+◌, ◌-◌, ◌*◌, ◌≤◌}
+use Prim.Native.Nat.{◌+◌, ◌*◌, ◌≤◌}
 use mathlib.Core.Path.{◌≡◌}
-use lib.ListN.{length, drop}
-use Rattle.ident.specs.Identifier.{weights, weighted}
+use lib.ListN.{length}
+use Rattle.std.specs.Iterator.Adapters.{zip_first, zip_second}
+use Rattle.std.specs.Slice.Iter.{iter_rest}
+use Rattle.ident.specs.Identifier.{weights_for, weighted}
 use Rattle.ident.proofs.weighted_sum.Given as goal
 
-abbrev pub invariant-loop-i : goal.invariant-loop-i
-invariant-loop-i l = (l.i ≤ length l.digits) × (l.sum ≤ 2560 * l.i) × (l.sum + weighted (drop (l.i + l.skip) weights) (drop l.i l.digits) ≡ weighted (drop l.skip weights) l.digits)
-
-abbrev pub decreases-loop-i : goal.decreases-loop-i
-decreases-loop-i l = length l.digits - l.i
+abbrev pub invariant-loop-weight : goal.invariant-loop-weight
+invariant-loop-weight l =
+    let weights = iter_rest (zip_first l.weight-iterator) in
+    let digits = iter_rest (zip_second l.weight-iterator) in
+    (l.sum + 53040 * length digits ≤ 53040 * 9) × (l.sum + weighted weights digits ≡ weighted (weights_for (length l.digits)) l.digits)

@@ -1,5 +1,5 @@
 -- `index::hash`.
-use borrow.Author.Rules.{rules}
+use Rattle.std.proofs.Common.{rules}
 use Rattle.index.proofs.Ways.{hash_is}
 use Rattle.index.proofs.hash.Goals as goal
 

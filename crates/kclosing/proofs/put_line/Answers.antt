@@ -1,16 +1,11 @@
--- `kclosing::put_line`.
-use Rattle.psc.proofs.ReadLaws.{read_long, read_within}
-use Rattle.kclosing.proofs.Ways.{line_refused, line_put}
+-- `kclosing::put_line`: its two ways out are those of any answer by a table that is read from text.
+use Rattle.std.proofs.Common.{rules}
+use Rattle.closing.specs.Closing.{closing_answer}
+use Rattle.posting.proofs.ReportWays.{text_refused, text_reported}
 use Rattle.kclosing.proofs.put_line.Goals as goal
 
-pub returns-then-answer-ne0 : goal.returns-then-answer-ne0
-returns-then-answer-ne0 c = search line_refused
+pub returns-in-Ok : goal.returns-in-Ok
+returns-in-Ok c = text_reported (λ psc. closing_answer psc c.args.file.now) _ _ _ _ c.read.ensures _ _ _ c.requires c.in-Ok.n c.in-Ok.is c.report.ensures
 
-pub slice_bounds-report-end : goal.slice_bounds-report-end
-slice_bounds-report-end c = search read_within
-
-pub slice_bounds-report-end-2 : goal.slice_bounds-report-end-2
-slice_bounds-report-end-2 c = search read_long
-
-pub returns : goal.returns
-returns c = search line_put
+pub returns-in-Err : goal.returns-in-Err
+returns-in-Err c = text_refused (λ psc. closing_answer psc c.args.file.now) _ _ _ _ c.read.ensures _ _ _ c.requires _ c.in-Err.field-0 c.in-Err.is (search rules) c.put_report.ensures

@@ -1,14 +1,9 @@
 -- `posting::checked`.
 use mathlib.Core.Path.{◌≡◌}
-use Prim.Native.Nat.{◌-◌, ◌/◌, ◌≤◌}
-use lib.ListN.{length}
 use Rattle.psc.specs.Search.{found}
 use Rattle.posting.specs.File.{totals_over}
 use Rattle.posting.proofs.Ways.{SoFar}
 use Rattle.posting.proofs.checked.Given as goal
 
 abbrev pub invariant-loop-i : goal.invariant-loop-i
-invariant-loop-i l = (l.i ≤ length l.file / 401) × (l.totals ≡ totals_over l.file l.i) × SoFar (found l.psc) l.file l.i l.initial.table l.table l.seen
-
-abbrev pub decreases-loop-i : goal.decreases-loop-i
-decreases-loop-i l = length l.file / 401 - l.i
+invariant-loop-i l = (l.totals ≡ totals_over l.file l.i) × SoFar (found l.psc) l.file l.i l.initial.table l.table l.seen

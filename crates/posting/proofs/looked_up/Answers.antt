@@ -1,21 +1,13 @@
 -- `posting::looked_up`.
-use borrow.Author.Rules.{rules}
-use native.Mathlib.Omega.{arith}
-use Rattle.index.proofs.Slots.{indexed_none}
+use Rattle.std.proofs.Common.{rules, sym, ◌∙◌}
+use borrow.Author.Tests.{eqb-false}
 use Rattle.posting.proofs.Ways.{file_odd, file_long}
 use Rattle.posting.proofs.looked_up.Goals as goal
 
-pub returns-then-file-ne0 : goal.returns-then-file-ne0
-returns-then-file-ne0 c = search file_odd
+pub returns-then-not-is_empty : goal.returns-then-not-is_empty
+returns-then-not-is_empty c =
+    file_odd _ _ _ (λ z. eqb-false _ 0 (sym c.is_empty.ensures ∙ c.if-not-is_empty.true) (c.as_chunks.ensures.back_len ∙ z)) c.refused.ensures
 
-pub returns-then-n-gt999 : goal.returns-then-n-gt999
-returns-then-n-gt999 c = search file_long
-
-pub checked-requires : goal.checked-requires
-checked-requires c = record { whole = search rules; few = omega arith; room = omega arith; none = indexed_none _ 0 128 }
-
-pub checked-requires-then-n-lt256 : goal.checked-requires-then-n-lt256
-checked-requires-then-n-lt256 c = record { whole = search rules; few = omega arith; room = omega arith; none = indexed_none _ 0 512 }
-
-pub checked-requires-2 : goal.checked-requires-2
-checked-requires-2 c = record { whole = search rules; few = omega arith; room = omega arith; none = indexed_none _ 0 2048 }
+pub returns-then-lines-gt999 : goal.returns-then-lines-gt999
+returns-then-lines-gt999 c =
+    search (rules, file_long)

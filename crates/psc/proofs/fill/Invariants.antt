@@ -1,13 +1,8 @@
 -- `psc::fill`.
-use mathlib.Core.Path.{◌≡◌}
-use Prim.Native.Nat.{◌-◌, ◌≤◌}
-use lib.ListN.{length}
-use lib.Seq.{paste}
-use Rattle.psc.specs.Text.{lines_in, table_in}
+use Rattle.std.proofs.Common.{◌≡◌}
+use Rattle.std.proofs.Math.Seq.{paste}
+use Rattle.psc.specs.Text.{table_in}
 use Rattle.psc.proofs.fill.Given as goal
 
 abbrev pub invariant-loop-i : goal.invariant-loop-i
-invariant-loop-i l = (l.i ≤ lines_in l.text) × (length l.table ≡ length l.initial.table) × (l.table ≡ paste l.initial.table 0 (table_in l.text) l.i)
-
-abbrev pub decreases-loop-i : goal.decreases-loop-i
-decreases-loop-i l = lines_in l.text - l.i
+invariant-loop-i l = l.table ≡ paste l.initial.table 0 (table_in l.text) l.i

@@ -6,6 +6,3 @@ use Rattle.text.proofs.decimal_places.Given as goal
 
 abbrev pub invariant-loop-count : goal.invariant-loop-count
 invariant-loop-count l = (1 ≤ l.count) × (l.count ≤ 20) × (l.count + decimal_places_up_to (20 - l.count) l.rest ≡ decimal_places l.n + 1)
-
-abbrev pub decreases-loop-count : goal.decreases-loop-count
-decreases-loop-count l = 20 - l.count

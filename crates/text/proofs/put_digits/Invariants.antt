@@ -8,6 +8,3 @@ use Rattle.text.proofs.put_digits.Given as goal
 
 abbrev pub invariant-loop-i : goal.invariant-loop-i
 invariant-loop-i l = (l.i ≤ length l.part) × (length l.part ≡ length l.initial.part) × (digits l.i l.rest ++ drop l.i l.part ≡ digits (length l.initial.part) l.n)
-
-abbrev pub decreases-loop-i : goal.decreases-loop-i
-decreases-loop-i l = l.i

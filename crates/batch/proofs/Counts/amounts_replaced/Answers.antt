@@ -1,4 +1,4 @@
--- `batch::Counts/amounts_replaced`.
+-- `batch::Counts::amounts_replaced`.
 use Rattle.batch.proofs.CountWays.{replaced}
 use Rattle.batch.proofs.Counts.amounts_replaced.Goals as goal
 

@@ -1,4 +1,4 @@
--- `batch::Counts/one_live_more`.
+-- `batch::Counts::one_live_more`.
 use Rattle.batch.proofs.CountWays.{live_more}
 use Rattle.batch.proofs.Counts.one_live_more.Goals as goal
 

@@ -1,28 +1,23 @@
 -- `batch::places::act`.
-use Rattle.batch.proofs.JournalWays.{adds_within, amends_some, amends_within, cancels_some, cancels_within, acted_add, acted_amend, acted_cancel}
+use mathlib.Core.Path.{refl, ap}
+use Rattle.batch.specs.Entries.{number_of_kind}
+use Rattle.batch.proofs.JournalWays.{adds_within, amends_some, cancels_some, acted_add, acted_amend, acted_cancel}
 use Rattle.batch.proofs.places.act.Goals as goal
 
 pub put_line-requires : goal.put_line-requires
-put_line-requires c = adds_within _ _ _ _ c.requires c.if-kind-eq1.true
+put_line-requires c = adds_within _ _ _ _ c.requires (ap number_of_kind c.in-Addition.is)
 
-pub returns-then-kind-eq1 : goal.returns-then-kind-eq1
-returns-then-kind-eq1 c = search acted_add
+pub unwrap-k-requires : goal.unwrap-k-requires
+unwrap-k-requires c = amends_some _ _ _ _ c.requires _ _ c.place_with.ensures (ap number_of_kind c.in-Amendment.is) c.field.ensures
 
-pub overflow_sub-found : goal.overflow_sub-found
-overflow_sub-found c = search amends_some
+pub unwrap-k-requires-in-Cancellation : goal.unwrap-k-requires-in-Cancellation
+unwrap-k-requires-in-Cancellation c = cancels_some _ _ _ _ c.requires _ _ c.place_with-in-Cancellation.ensures (ap number_of_kind c.in-Cancellation.is) refl
 
-pub put_line-requires-then-kind-eq3 : goal.put_line-requires-then-kind-eq3
-put_line-requires-then-kind-eq3 c =
-    amends_within _ _ _ _ c.requires c.if-kind-eq1.false c.if-kind-eq3.true _ c.field.ensures _ c.record_number-found.ensures
+pub returns-in-Addition : goal.returns-in-Addition
+returns-in-Addition c = acted_add _ _ _ _ _ (ap number_of_kind c.in-Addition.is) c.put_line.ensures
 
-pub returns-then-kind-eq3 : goal.returns-then-kind-eq3
-returns-then-kind-eq3 c = search acted_amend
+pub returns-in-Amendment : goal.returns-in-Amendment
+returns-in-Amendment c = acted_amend _ _ _ _ _ _ _ c.place_with.ensures _ c.unwrap-k.ensures (ap number_of_kind c.in-Amendment.is) c.field.ensures c.put_line-in-Amendment.ensures
 
-pub overflow_sub-found-2 : goal.overflow_sub-found-2
-overflow_sub-found-2 c = search cancels_some
-
-pub put_cancelled-requires : goal.put_cancelled-requires
-put_cancelled-requires c = cancels_within _ _ _ _ c.requires c.if-kind-eq1.false c.if-kind-eq3.false _ c.record_number-found-2.ensures
-
-pub returns : goal.returns
-returns c = search acted_cancel
+pub returns-in-Cancellation : goal.returns-in-Cancellation
+returns-in-Cancellation c = acted_cancel _ _ _ _ _ _ _ c.place_with-in-Cancellation.ensures _ c.unwrap-k-in-Cancellation.ensures (ap number_of_kind c.in-Cancellation.is) refl c.put_cancelled.ensures

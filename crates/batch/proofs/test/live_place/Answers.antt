@@ -1,18 +1,19 @@
 -- `batch::test::live_place`.
-use Rattle.batch.proofs.TestWays.{mark_fits, found_marked, live_none, live_odd, live_there}
+use mathlib.Core.Path.{◌∙◌}
+use Rattle.batch.proofs.TestWays.{live_none, mark_fits, found_marked, live_odd, live_there}
 use Rattle.batch.proofs.test.live_place.Goals as goal
 
-pub returns-then-found-eq0 : goal.returns-then-found-eq0
-returns-then-found-eq0 c = search live_none
+pub returns-in_err-k : goal.returns-in_err-k
+returns-in_err-k c = c.from_residual.ensures ∙ live_none _ _ _ _ _ _ c.requires c.find.ensures c.in_err-k.was
 
 pub offset_bounds-marks-k : goal.offset_bounds-marks-k
-offset_bounds-marks-k c = search mark_fits
+offset_bounds-marks-k c = mark_fits _ _ _ _ _ _ c.requires c.find.ensures _ c.in_ok-k.was
 
 pub bounds-marks-k : goal.bounds-marks-k
-bounds-marks-k c = search found_marked
+bounds-marks-k c = found_marked _ _ _ _ _ _ c.requires c.find.ensures _ c.in_ok-k.was
 
 pub returns-then-marks-k-eq1 : goal.returns-then-marks-k-eq1
-returns-then-marks-k-eq1 c = search live_odd
+returns-then-marks-k-eq1 c = live_odd _ _ _ _ _ _ c.requires c.find.ensures _ c.in_ok-k.was c.if-marks-k-eq1.true
 
 pub returns : goal.returns
-returns c = search live_there
+returns c = live_there _ _ _ _ _ _ c.requires c.find.ensures _ c.in_ok-k.was c.if-marks-k-eq1.false

@@ -1,21 +1,17 @@
 -- `batch::test::mark_addition`.
-use Rattle.batch.proofs.TestWays.{added_short, added_refused, added_strays, added_other, added_twice, added_now}
+use mathlib.Core.Path.{sym}
+use Rattle.batch.proofs.TestWays.{added_refused, added_other, added_twice, added_now}
 use Rattle.batch.proofs.test.mark_addition.Goals as goal
 
-pub returns-then-file-a-lt401 : goal.returns-then-file-a-lt401
-returns-then-file-a-lt401 c = search added_short
-
-pub returns-then-answer-ne0 : goal.returns-then-answer-ne0
-returns-then-answer-ne0 c = search added_refused
-
-pub returns-then-another : goal.returns-then-another
-returns-then-another c = search added_strays
+pub returns-then-is_err : goal.returns-then-is_err
+returns-then-is_err c = added_refused _ _ _ _ _ _ _ _ _ c.answer-check.ensures (sym c.if-is_err.ensures.value)
 
 pub returns-then-not-same : goal.returns-then-not-same
 returns-then-not-same c = search added_other
 
-pub returns-then-before-ne0 : goal.returns-then-before-ne0
-returns-then-before-ne0 c = search added_twice
+pub returns-then-is_some : goal.returns-then-is_some
+returns-then-is_some c = added_twice _ _ _ _ _ _ _ _ _ c.field.ensures _ c.same.ensures c.if-not-same.false c.requires.0 _ _ c.put.ensures (sym c.if-is_some.ensures)
 
 pub returns : goal.returns
-returns c = search added_now
+returns c =
+    added_now _ _ _ _ _ _ _ _ _ c.field.ensures _ c.same.ensures c.if-not-same.false c.requires.0 _ _ c.put.ensures c.if-file-start-lt401.false _ c.answer-check.ensures (sym c.if-is_err.ensures.value) _ c.another.ensures c.if-another.false (sym c.if-is_some.ensures) _ c.or.ensures

@@ -1,34 +1,21 @@
 -- `batch::test::walk`.
-use mathlib.Core.Path.{◌∙◌}
 use Rattle.batch.proofs.WalkWays.{walk_starts, going_steps, walk_fails, going_less, going_on, walk_ends}
 use Rattle.batch.proofs.test.walk.Goals as goal
 
-pub loop-used-init : goal.loop-used-init
-loop-used-init c = search walk_starts
+pub loop-at-init : goal.loop-at-init
+loop-at-init c = walk_starts _ _ _ _ _ c.requires
 
-pub step-w-requires : goal.step-w-requires
-step-w-requires c = search going_steps
+pub step-requires : goal.step-requires
+step-requires c = going_steps _ _ _ _ _ _ _ _ _ _ _ c.loop-at.invariant c.loop-at-test.true
 
-pub shape_of-marks-then-not-w : goal.shape_of-marks-then-not-w
-shape_of-marks-then-not-w c = c.step-w.auto.marks ∙ c.loop-used.invariant.marks_long
+pub returns-in_err-at : goal.returns-in_err-at
+returns-in_err-at c = rw c.from_residual.ensures (walk_fails _ _ _ _ _ _ _ _ _ _ _ c.loop-at.invariant c.loop-at-test.true _ _ _ c.step.ensures c.in_err-at.was)
 
-pub shape_of-table-then-not-w : goal.shape_of-table-then-not-w
-shape_of-table-then-not-w c = c.step-w.auto.table ∙ c.loop-used.invariant.table_long
+pub loop-at-smaller : goal.loop-at-smaller
+loop-at-smaller c = going_less _ _ _ _ _ _ _ _ _ _ _ c.loop-at.invariant c.loop-at-test.true _ _ _ c.step.ensures _ c.in_ok-at.was
 
-pub returns-then-not-w : goal.returns-then-not-w
-returns-then-not-w c = search walk_fails
-
-pub loop-used-smaller : goal.loop-used-smaller
-loop-used-smaller c = search going_less
-
-pub loop-used-preserved : goal.loop-used-preserved
-loop-used-preserved c = search going_on
-
-pub shape_of-marks : goal.shape_of-marks
-shape_of-marks c = c.loop-used.invariant.marks_long
-
-pub shape_of-table : goal.shape_of-table
-shape_of-table c = c.loop-used.invariant.table_long
+pub loop-at-preserved : goal.loop-at-preserved
+loop-at-preserved c = going_on _ _ _ _ _ _ _ _ _ _ _ c.loop-at.invariant c.loop-at-test.true _ _ _ c.step.ensures _ c.in_ok-at.was c.step.auto.marks
 
 pub returns : goal.returns
-returns c = search walk_ends
+returns c = walk_ends _ _ _ _ _ _ _ _ c.loop-at.invariant c.loop-at-test.false

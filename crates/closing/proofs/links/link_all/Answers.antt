@@ -1,23 +1,17 @@
 -- `closing::links::link_all`.
-use borrow.Author.Rules.{rules}
 use native.Mathlib.Omega.{arith}
-use Rattle.closing.proofs.LinkWays.{none_linked, one_linked, room_next, low_there, here_whole, before_fits, place_there, all_linked}
+use mathlib.Core.Path.{◌≡◌}
+use Rattle.std.proofs.Common.{rules}
+use Rattle.closing.proofs.LinkWays.{mapped_same, none_linked, one_linked, place_fits}
 use Rattle.closing.proofs.links.link_all.Goals as goal
 
 pub loop-i-init : goal.loop-i-init
-loop-i-init c = (omega arith, search none_linked)
+loop-i-init c = search none_linked
 
-pub live_before-before-requires : goal.live_before-before-requires
-live_before-before-requires c = (search low_there, search here_whole, search room_next, search rules)
-
-pub overflow_cast-links : goal.overflow_cast-links
-overflow_cast-links c = search before_fits
-
-pub bounds-links-i : goal.bounds-links-i
-bounds-links-i c = search place_there
+pub map-requires : goal.map-requires
+map-requires c = λ x e _ _. place_fits _ _ _ x _ c.live_before.ensures.link (omega arith) c.args.records.now.few e
 
 pub loop-i-preserved : goal.loop-i-preserved
-loop-i-preserved c = (omega arith, search one_linked)
-
-pub returns : goal.returns
-returns c = search all_linked
+loop-i-preserved c =
+    let same : c.map.result ≡ c.live_before.result = mapped_same _ _ c.map.ensures.cases (λ x y h. search rules) in
+    rw same (one_linked _ _ _ _ _ _ _ _ c.requires (omega arith) c.loop-i.invariant c.live_before.ensures)

@@ -1,16 +1,13 @@
 -- `closing::links::live_from`.
-use native.Mathlib.Omega.{arith}
-use Rattle.closing.proofs.LinkWays.{from_none, from_live, from_link, link_below, link_fits}
+use Rattle.std.proofs.Common.{rules}
+use Rattle.closing.proofs.LinkWays.{mapped_same, from_none, from_live, from_link}
 use Rattle.closing.proofs.links.live_from.Goals as goal
 
-pub returns-then-at-eq0 : goal.returns-then-at-eq0
-returns-then-at-eq0 c = (search from_none, omega arith)
+pub returns-in_err-i : goal.returns-in_err-i
+returns-in_err-i c = search (from_none, rules)
 
 pub returns-then-is_live : goal.returns-then-is_live
-returns-then-is_live c = (search from_live, omega arith)
-
-pub overflow_cast-result : goal.overflow_cast-result
-overflow_cast-result c = search link_fits
+returns-then-is_live c = search (from_live, rules)
 
 pub returns : goal.returns
-returns c = (search from_link, search link_below)
+returns c = from_link _ _ c.args.at c.in_ok-i.i _ (search rules) c.at.ensures (search rules) c.if-is_live.false c.args.links.now c.requires _ (mapped_same _ _ c.map.ensures.cases (λ x y h. search rules))

@@ -7,4 +7,4 @@ pub put_crowns_and_hellers-requires : goal.put_crowns_and_hellers-requires
 put_crowns_and_hellers-requires c = (search rules, search crowns_nine)
 
 pub returns : goal.returns
-returns c = search money_put
+returns c = search (money_put, c.fill.ensures.after (λ y e. e))

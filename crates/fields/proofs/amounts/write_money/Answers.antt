@@ -9,7 +9,7 @@ pub returns-then-v-ge100000000000 : goal.returns-then-v-ge100000000000
 returns-then-v-ge100000000000 c = search money_over
 
 pub returns-in-Absent : goal.returns-in-Absent
-returns-in-Absent c = search money_blank
+returns-in-Absent c = search (money_blank, c.fill.ensures.after (λ y e. e))
 
 pub returns-else-v-ge100000000000 : goal.returns-else-v-ge100000000000
 returns-else-v-ge100000000000 c = search money_text_lem

@@ -9,7 +9,7 @@ pub returns-then-v-ge100000 : goal.returns-then-v-ge100000
 returns-then-v-ge100000 c = search weight_over
 
 pub returns-in-Absent : goal.returns-in-Absent
-returns-in-Absent c = search weight_blank
+returns-in-Absent c = search (weight_blank, c.fill.ensures.after (λ y e. e))
 
 pub returns-else-v-ge100000 : goal.returns-else-v-ge100000
 returns-else-v-ge100000 c = search weight_text_lem

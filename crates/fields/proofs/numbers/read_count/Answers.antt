@@ -1,16 +1,8 @@
 -- `fields::numbers::read_count`.
-use Rattle.fields.proofs.Frames.{frame_wide, frame_blank}
-use Rattle.fields.proofs.Ways.{count_value, count_bad}
+use Rattle.std.proofs.Common.{rules, arith}
+use Rattle.text.proofs.Numbers.{few_digits}
+use Rattle.fields.proofs.Frames.{framed_is}
 use Rattle.fields.proofs.numbers.read_count.Goals as goal
 
-pub returns-then-f-ne-COUNT_WIDTH : goal.returns-then-f-ne-COUNT_WIDTH
-returns-then-f-ne-COUNT_WIDTH c = search frame_wide
-
-pub returns-then-blank : goal.returns-then-blank
-returns-then-blank c = search frame_blank
-
-pub returns-then-good : goal.returns-then-good
-returns-then-good c = search count_value
-
-pub returns-else-good : goal.returns-else-good
-returns-else-good c = search count_bad
+pub returns : goal.returns
+returns c = framed_is _ _ _ _ c.framed.ensures _ _ (λ o long p. let few = few_digits 16 c.args.f.now (omega arith) in search rules)

@@ -1,16 +1,8 @@
 -- `fields::numbers::read_telephone`.
-use Rattle.fields.proofs.Frames.{frame_wide, frame_blank}
-use Rattle.fields.proofs.Ways.{telephone_value, telephone_bad}
+use Rattle.std.proofs.Common.{rules, arith}
+use Rattle.text.proofs.Numbers.{few}
+use Rattle.fields.proofs.Frames.{framed_is}
 use Rattle.fields.proofs.numbers.read_telephone.Goals as goal
 
-pub returns-then-f-ne-TELEPHONE_WIDTH : goal.returns-then-f-ne-TELEPHONE_WIDTH
-returns-then-f-ne-TELEPHONE_WIDTH c = search frame_wide
-
-pub returns-then-blank : goal.returns-then-blank
-returns-then-blank c = search frame_blank
-
-pub returns-then-good : goal.returns-then-good
-returns-then-good c = search telephone_value
-
-pub returns-else-good : goal.returns-else-good
-returns-else-good c = search telephone_bad
+pub returns : goal.returns
+returns c = framed_is _ _ _ _ c.framed.ensures _ _ (λ o long p. let some = few c.args.f.now 1 13 (omega arith) in search rules)

@@ -2,8 +2,8 @@
 use Rattle.fields.proofs.ServiceWays.{finish_adds, finish_not}
 use Rattle.fields.proofs.services.finished.Goals as goal
 
-pub returns-then-good : goal.returns-then-good
-returns-then-good c = search finish_adds
+pub returns-then-not-blank : goal.returns-then-not-blank
+returns-then-not-blank c = search finish_not
 
-pub returns-else-good : goal.returns-else-good
-returns-else-good c = search finish_not
+pub returns : goal.returns
+returns c = search finish_adds

@@ -1,13 +1,16 @@
 -- `fields::texts::filled`.
-use native.Mathlib.Omega.{arith}
-use Rattle.fields.proofs.TextWays.{filled_here, filled_down, filled_none}
+use Rattle.std.proofs.Common.{rules, arith}
+use Rattle.fields.proofs.TextWays.{filled_before, filled_less, filled_here, filled_none}
 use Rattle.fields.proofs.texts.filled.Goals as goal
 
-pub returns-then-f-n-ne32 : goal.returns-then-f-n-ne32
-returns-then-f-n-ne32 c = (search filled_here, omega arith)
+pub loop-before-preserved : goal.loop-before-preserved
+loop-before-preserved c = (search (rules, filled_before), grind arith)
 
-pub loop-n-preserved : goal.loop-n-preserved
-loop-n-preserved c = (omega arith, search filled_down)
+pub loop-last-preserved : goal.loop-last-preserved
+loop-last-preserved c = (search (rules, filled_less), grind arith)
 
-pub returns : goal.returns
-returns c = (search filled_none, omega arith)
+pub returns-then-last-ne32 : goal.returns-then-last-ne32
+returns-then-last-ne32 c = (search (rules, filled_here), omega arith)
+
+pub returns-in_default-split_last : goal.returns-in_default-split_last
+returns-in_default-split_last c = (search (rules, filled_none), omega arith)

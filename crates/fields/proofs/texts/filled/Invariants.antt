@@ -1,13 +1,16 @@
 -- `fields::texts::filled`.
-use mathlib.Core.Path.{◌≡◌}
-use mathlib.Core.Bool.{true}
-use Prim.Native.Nat.{◌≤◌}
-use lib.ListN.{length, drop}
-use Rattle.text.specs.Bytes.{is_blank}
+use Rattle.std.proofs.Common.{◌≡◌, ◌≤◌, length}
+use Rattle.fields.specs.Texts.{filled}
 use Rattle.fields.proofs.texts.filled.Given as goal
 
-abbrev pub invariant-loop-n : goal.invariant-loop-n
-invariant-loop-n l = (l.n ≤ length l.f) × (is_blank (drop l.n l.f) ≡ true)
+abbrev pub invariant-loop-before : goal.invariant-loop-before
+invariant-loop-before l = (filled l.front ≡ filled l.f) × (length l.front ≤ length l.f)
 
-abbrev pub decreases-loop-n : goal.decreases-loop-n
-decreases-loop-n l = l.n
+abbrev pub decreases-loop-before : goal.decreases-loop-before
+decreases-loop-before l = length l.front
+
+abbrev pub invariant-loop-last : goal.invariant-loop-last
+invariant-loop-last l = (filled l.front ≡ filled l.f) × (length l.front ≤ length l.f)
+
+abbrev pub decreases-loop-last : goal.decreases-loop-last
+decreases-loop-last l = length l.front

@@ -1,5 +1,5 @@
 -- `fields::texts::low_bits`.
-use Rattle.fields.proofs.WordText.{low_bits_small}
+use Rattle.fields.specs.WordTexts.{low_bits_small}
 use Rattle.fields.proofs.texts.low_bits.Goals as goal
 
 pub returns : goal.returns

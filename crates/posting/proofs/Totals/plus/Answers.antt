@@ -1,24 +1,21 @@
 -- `posting::Totals/plus`.
-use Rattle.posting.proofs.Amounts.{fits_below, live_large, cancelled_large, cash_large, price_large, all_fit}
+use Rattle.std.proofs.Common.{rules}
+use Rattle.posting.proofs.Amounts.{live_large, cancelled_large, cash_large, price_large, all_fit}
 use Rattle.posting.proofs.Totals.plus.Goals as goal
 
-pub returns-then-not-fits : goal.returns-then-not-fits
-returns-then-not-fits c = search live_large
+pub returns-in_err-live : goal.returns-in_err-live
+returns-in_err-live c = search (rules, live_large c.args.self c.args.other c.in_err-live.ensures)
 
-pub overflow_add-live : goal.overflow_add-live
-overflow_add-live c = search fits_below
+pub returns-in_err-cancelled : goal.returns-in_err-cancelled
+returns-in_err-cancelled c = search (rules, cancelled_large c.args.self c.args.other _ c.in_ok-live.ensures c.in_err-cancelled.ensures)
 
-pub returns-then-not-fits-2 : goal.returns-then-not-fits-2
-returns-then-not-fits-2 c = search cancelled_large
+pub returns-in_err-cash : goal.returns-in_err-cash
+returns-in_err-cash c =
+    search (rules, cash_large c.args.self c.args.other _ c.in_ok-live.ensures _ c.in_ok-cancelled.ensures c.in_err-cash.ensures)
 
-pub overflow_add-cancelled : goal.overflow_add-cancelled
-overflow_add-cancelled c = search fits_below
-
-pub returns-in_default : goal.returns-in_default
-returns-in_default c = search cash_large
-
-pub returns-in_default-plus : goal.returns-in_default-plus
-returns-in_default-plus c = search price_large
+pub returns-in_err-price : goal.returns-in_err-price
+returns-in_err-price c =
+    search (rules, price_large c.args.self c.args.other _ c.in_ok-live.ensures _ c.in_ok-cancelled.ensures _ c.in_ok-cash.ensures c.in_err-price.ensures)
 
 pub returns : goal.returns
-returns c = search all_fit
+returns c = all_fit c.args.self c.args.other _ c.in_ok-live.ensures _ c.in_ok-cancelled.ensures _ c.in_ok-cash.ensures _ c.in_ok-price.ensures

@@ -1,13 +1,9 @@
--- `run_judged::histories::answer_calls` is safe and ends: the measure is the bytes of the history that are left.
--- the lent buffers and the lent table keep their lengths, and the entries are within the table
-use Prim.Native.Nat.{◌≤◌}
-use mathlib.Core.Path.{◌≡◌}
-use lib.ListN.{length}
+-- `run_judged::histories::answer_calls`: the entries that hold are within the lent table, and each call leaves fewer bytes of the history.
+use Rattle.std.proofs.Common.{◌≤◌, length}
 use Rattle.run_judged.proofs.histories.answer_calls.Given as goal
 
-abbrev pub invariant-loop-left : goal.invariant-loop-left
-invariant-loop-left g l =
-    (length l.file ≡ length l.initial.file) × (length l.journal ≡ length l.initial.journal) × (length l.table ≡ length l.initial.table) × (l.entries ≤ length l.table)
+abbrev pub invariant-loop-item : goal.invariant-loop-item
+invariant-loop-item g l = l.entries ≤ length l.table
 
-abbrev pub decreases-loop-left : goal.decreases-loop-left
-decreases-loop-left g l = l.left
+abbrev pub decreases-loop-item : goal.decreases-loop-item
+decreases-loop-item g l = l.item.left

@@ -1,9 +1,0 @@
--- `run_judged::items::read_full`: what is left of the buffer grows less.
-use Rattle.std.proofs.Common.{◌-◌, ◌≤◌, length}
-use Rattle.run_judged.proofs.items.read_full.Given as goal
-
-abbrev pub invariant-loop-done : goal.invariant-loop-done
-invariant-loop-done g l = l.done ≤ length l.buf
-
-abbrev pub decreases-loop-done : goal.decreases-loop-done
-decreases-loop-done g l = length l.buf - l.done
