@@ -4,13 +4,14 @@ use Prim.Native.Nat.{ℕ, zero, suc, ◌+◌, ◌-◌, ◌*◌, ◌≤◌, ◌<�
 use mathlib.Core.Path.{◌≡◌, refl, sym, ap, ◌∙◌, subst}
 use mathlib.Core.Bool.{Bool, true, false, cond, not}
 use lib.Dec.{eqb}
-use mathlib.Core.List.{List, [], ◌∷◌, ◌++◌}
-use native.Mathlib.Nat.{add-sub_cancel_left}
+use mathlib.Core.List.{List, [], ◌∷◌, ◌++◌, append_assoc}
+use native.Mathlib.Nat.{add-zero, add-sub_cancel_left}
 use native.Mathlib.Omega.{arith}
 use borrow.Author.Tests.{ne_eqb, le-leb, lt-leb}
 use borrow.Rule.Slice.PartMut.{put_mid}
-use lib.ListN.{length, take, drop, length-append, length-drop, drop_of_length-le}
-use lib.Seq.{take_at}
+use lib.ListN.{length, take, drop, set, length-append, drop_of_length-le}
+use lib.Seq.{take_at, take-take, take-add, drop-drop}
+use Rattle.std.proofs.lemmas.List.{drop-take, take-append-drop}
 use Rattle.std.specs.Prelude.{Option, Some, None, is_some, IsSome, Result, Ok, Err, ⊤}
 use Rattle.std.specs.Result.{IsErrAnd}
 use Rattle.std.proofs.lemmas.Result.{err_from_is_err_and}
@@ -19,7 +20,7 @@ use Rattle.text.proofs.Refusals.{refuses, not_accepted}
 use Rattle.psc.specs.Table.{Known}
 use Rattle.text.specs.declared.Answer.{Answer}
 use Rattle.text.specs.Answers.{answer, answer_of, answered, accepted, or_else}
-use Rattle.text.specs.Lists.{same_bytes}
+use Rattle.text.specs.Lists.{same_bytes, overlay}
 use Rattle.text.proofs.Lists.{put_is}
 use Rattle.ident.specs.Identifier.{right_id}
 use Rattle.ident.specs.Calls.{Checked}
@@ -30,7 +31,7 @@ use Rattle.record.specs.declared.RecordCheck.{RecordCheck}
 use Rattle.record.specs.Rules.{to_post, record_answer}
 use Rattle.record.specs.Consignors.{WithConsignor, consignor_of}
 use Rattle.posting.specs.File.{line_of, id_at}
-use Rattle.batch.specs.Places.{number_of_place, record_number, present, live_answer, add_answer, amend_answer, cancel_answer, action_answer}
+use Rattle.batch.specs.Places.{number_of_place, record_number, present, live_answer, add_answer, amend_answer, cancel_answer, with_line, action_answer}
 
 -- ---- record_number: one record down
 seek_down : (file id : List ℕ) (j : ℕ) → 0 < j → record_number file id j ≡ cond (same_bytes (id_at file (j - 1)) id) j (record_number file id (j - 1))
@@ -151,11 +152,67 @@ pub action_cancel : (known : Known) (file body : List ℕ) (held : ℕ) (seen : 
 unfolding action_answer
 action_cancel known file body held seen kind r k e = rw k e
 
--- ---- write_line
-pub line_written : (line rec front end : List ℕ) → length rec ≡ 399 → length line ≡ 401 → front ≡ rec → end ≡ 13 ∷ 10 ∷ []
-    → put_mid 399 (length (front ++ drop 399 line) - 399) (front ++ drop 399 line) end ≡ line_of rec
-line_written line rec front end lr ll ef ee =
-    let whole = rec ++ drop 399 line in
-    let long : length whole ≡ 401 = omega (arith, length-append rec (drop 399 line), length-drop 399 line, lr, ll) in
-    let none : drop (length whole) whole ≡ [] = drop_of_length-le whole {i = length whole} (omega arith) in
-    rw (ef, ee) (put_is 399 (length whole) whole (13 ∷ 10 ∷ []) (omega (arith, long)) (omega arith) ∙ rw (none, take_at rec (drop 399 line) 399 lr))
+-- ---- line_of
+pub line_written : (rec front end : List ℕ) → length rec ≡ 399 → front ≡ rec → end ≡ 13 ∷ 10 ∷ [] → put_mid 399 2 (front ++ 0 ∷ 0 ∷ []) end ≡ line_of rec
+line_written rec front end long ef ee =
+    let whole = rec ++ 0 ∷ 0 ∷ [] in
+    let all : length whole ≡ 401 = omega (arith, length-append rec (0 ∷ 0 ∷ []), long) in
+    let none : drop 401 whole ≡ [] = drop_of_length-le whole {i = 401} (omega (arith, all)) in
+    rw (ef, ee) (put_is 399 401 whole (13 ∷ 10 ∷ []) (omega arith) (omega (arith, all)) ∙ rw (none, take_at rec (0 ∷ 0 ∷ []) 399 long))
+
+-- ---- what is put into a place: a line, or two bytes
+pub line_put : (file line rec : List ℕ) (k : ℕ) → line ≡ line_of rec → overlay file (k * 401 + 0) line ≡ with_line file k rec
+line_put file line rec k e = rw (add-zero (k * 401), e)
+
+two_put : (s : List ℕ) (a x y : ℕ) → a + 2 ≤ length s → overlay s a (x ∷ y ∷ []) ≡ set (set s a x) (a + 1) y
+two_put [] a x y h = absurd (omega (arith, h))
+two_put (b ∷ []) zero x y h = absurd (omega (arith, h))
+two_put (b ∷ c ∷ s) zero x y h = refl
+two_put (b ∷ s) (suc a) x y h =
+    let past : suc a + 2 ≡ suc (a + 2) = omega arith in
+    let next : suc a + 1 ≡ suc (a + 1) = omega arith in
+    rw (past, next) (ap (λ (t : List ℕ). b ∷ t) (two_put s a x y (omega (arith, h))))
+
+pub status_put : (file : List ℕ) (k x y : ℕ) → k * 401 + 401 ≤ length file → overlay file (k * 401 + 340) (x ∷ y ∷ []) ≡ set (set file (k * 401 + 340) x) (k * 401 + 341) y
+status_put file k x y h =
+    let next : k * 401 + 340 + 1 ≡ k * 401 + 341 = omega arith in
+    two_put file (k * 401 + 340) x y (omega (arith, h)) ∙ ap (λ (a : ℕ). set (set file (k * 401 + 340) x) a y) next
+
+pub bytes_put : (place part bytes : List ℕ) (at : ℕ) → length place ≡ 401 → at + length bytes ≤ 401 → part ≡ bytes
+    → put_mid at (at + length bytes - at) place part ≡ overlay place at bytes
+bytes_put place part bytes at long fits e = put_is at (at + length bytes) place part (omega arith) (omega (arith, long, fits)) ∙ rw e
+
+-- the place that was lent is back
+module _ (file bytes : List ℕ) (k at : ℕ) (inside : k * 401 + 401 ≤ length file) (fits : at + length bytes ≤ 401) where
+  abbrev behind : List ℕ
+  behind = drop (k * 401) file
+
+  abbrev end : ℕ
+  end = at + length bytes
+
+  front_is : take (k * 401) file ++ take at (take 401 behind) ≡ take (k * 401 + at) file
+  front_is = ap (λ (t : List ℕ). take (k * 401) file ++ t) (take-take at 401 behind (omega (arith, fits))) ∙ sym (take-add (k * 401) at file)
+
+  back_is : drop end (take 401 behind) ++ drop (k * 401 + 401) file ≡ drop (k * 401 + at + length bytes) file
+  back_is =
+      let rest = 401 - end in
+      let whole : 401 ≡ end + rest = omega (arith, fits) in
+      let last : k * 401 + 401 ≡ k * 401 + end + rest = omega (arith, fits) in
+      let start : drop end behind ≡ drop (k * 401 + end) file = drop-drop end (k * 401) file in
+      let cut : drop end (take 401 behind) ≡ take rest (drop end behind) = ap (λ (w : ℕ). drop end (take w behind)) whole ∙ drop-take end rest behind in
+      let others : drop (k * 401 + 401) file ≡ drop rest (drop end behind) =
+      ap (λ (w : ℕ). drop w file) last ∙ sym (drop-drop rest (k * 401 + end) file) ∙ ap (drop rest) (sym start) in
+      let sum : k * 401 + end ≡ k * 401 + at + length bytes = omega arith in
+      (λ i. cut i ++ others i) ∙ take-append-drop rest (drop end behind) ∙ start ∙ ap (λ (w : ℕ). drop w file) sum
+
+  pub place_put : (part : List ℕ) → part ≡ overlay (take (k * 401 + 401 - k * 401) behind) at bytes → put_mid (k * 401) (k * 401 + 401 - k * 401) file part ≡ overlay file (k * 401 + at) bytes
+  place_put part e =
+      let here : part ≡ overlay (take 401 behind) at bytes = e ∙ ap (λ (w : ℕ). overlay (take w behind) at bytes) (add-sub_cancel_left (k * 401) 401) in
+      let front = take at (take 401 behind) in
+      let back = drop end (take 401 behind) in
+      let others = drop (k * 401 + 401) file in
+      put_is (k * 401) (k * 401 + 401) file part (omega arith) inside
+      ∙ ap (λ (t : List ℕ). take (k * 401) file ++ (t ++ others)) here
+      ∙ ap (λ (t : List ℕ). take (k * 401) file ++ t) (append_assoc front (bytes ++ back) others ∙ ap (λ (t : List ℕ). front ++ t) (append_assoc bytes back others))
+      ∙ sym (append_assoc (take (k * 401) file) front (bytes ++ (back ++ others)))
+      ∙ (λ i. front_is i ++ (bytes ++ back_is i))

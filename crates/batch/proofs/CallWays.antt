@@ -7,16 +7,14 @@ use mathlib.Core.List.{List, []}
 use native.Mathlib.Nat.{sub-zero}
 use native.Mathlib.Omega.{arith}
 use borrow.Author.Tests.{eq-eqb, ne_eqb, eqb-true, eqb-false, le-leb, lt-leb}
-use borrow.Rule.Slice.PartMut.{put_mid, mid_len}
 use lib.Dec.{eqb}
-use lib.ListN.{length, take, drop, length-replicate}
+use lib.ListN.{length}
 use Rattle.psc.specs.Table.{Known, holds}
 use Rattle.psc.specs.Search.{found}
 use Rattle.text.specs.declared.Answer.{Answer}
 use Rattle.text.specs.Answers.{answer, answer_of, answered, accepted, or_else}
 use Rattle.text.specs.Lists.{overlay}
 use Rattle.text.proofs.Booleans.{clash}
-use Rattle.text.proofs.Lists.{put_is}
 use Rattle.ident.specs.declared.consignor.Consignor.{Consignor}
 use Rattle.record.specs.Consignors.{first_of}
 use Rattle.posting.specs.File.{totals, totals_over}
@@ -179,7 +177,7 @@ module _ (psc file journal : List ℕ) (c : Counts) (r : Result Finding Refusal)
       refused_as e is = done_as (answer_of e) c file journal (sym is) (sym (left_alone (eqb-false (answer_of e).code 0 (refuses e)) is))
 
       -- an action, by what its work left: one law for add, amend and cancel
-      work_done : (a : Action) (q : Result Counts Refusal) (file' journal' : List ℕ) → ((s : State) → rules v (length file) (length journal) s call ≡ rule_behind v (length file) (length journal) s.actions a) → ((s : State) → next s call ≡ with s a)
+      pub work_done : (a : Action) (q : Result Counts Refusal) (file' journal' : List ℕ) → ((s : State) → rules v (length file) (length journal) s call ≡ rule_behind v (length file) (length journal) s.actions a) → ((s : State) → next s call ≡ with s a)
           → Worked (found psc) file journal c g.seen (number_of a) (body_of a) q file' journal' → Called psc this call (answered q) (counts_or c q) file' journal'
       work_done a q file' journal' er en w =
           let f = (eg.if_so g z).found in
@@ -234,13 +232,3 @@ module _ (psc file journal : List ℕ) (k : Counts) (b : Bool) (ek : k ≡ no_co
       let long : right_lengths (length file) (length journal) ≡ true = sym e ∙ n in
       rw (ek, ef, ej)
       (opens_as accepted (batch_of (zeros (length file)) (zeros (length journal)) no_counts) (sym (open_answers (posted (holds psc)) (batch_of file journal no_counts) ∙ rw long)) (sym (open_after (posted (holds psc)) (batch_of file journal no_counts) ∙ rw long (opening (length file) (length journal)))))
-
--- ---- undo
-pub entry_cleared : (journal part : List ℕ) (last used : ℕ) → (last ≤ used) × (used ≤ length journal) → part ≡ zeros (length (take (used - last) (drop last journal)))
-    → put_mid last (used - last) journal part ≡ overlay journal last (zeros (used - last))
-entry_cleared journal part last used pre e =
-    let wide : length (take (used - last) (drop last journal)) ≡ used - last = mid_len last used journal pre.1 in
-    let whole : part ≡ zeros (used - last) = e ∙ ap zeros wide in
-    let size : length (zeros (used - last)) ≡ used - last = length-replicate (used - last) 0 in
-    let back : last + (used - last) ≡ used = omega arith in
-    put_is last used journal part pre.0 pre.1 ∙ rw (whole, size, back)

@@ -3,7 +3,7 @@
 use Prim.Native.Nat.{ℕ, ◌+◌, ◌*◌, ◌≤◌}
 use mathlib.Core.Path.{◌≡◌, refl, sym, ap, ◌∙◌}
 use mathlib.Core.Bool.{Bool, true, false, cond, not}
-use mathlib.Core.List.{List}
+use mathlib.Core.List.{List, [], ◌∷◌}
 use native.Mathlib.Omega.{arith}
 use borrow.Author.Tests.{eq-eqb, leb-true, eqb-true, eqb-false}
 use lib.Dec.{eqb, leb}
@@ -21,7 +21,9 @@ use Rattle.record.specs.Consignors.{consignor_of}
 use Rattle.batch.specs.Places.{number_of_place, record_number, present, place_of, is_cancelled_at, id_of, live_answer, add_answer, amend_answer, cancel_answer, with_line, with_cancelled, action_answer, action_file}
 use Rattle.batch.specs.Entries.{body_length, head_stands, kind_at}
 use Rattle.batch.specs.Work.{Acceptable}
-use Rattle.batch.proofs.ActionWays.{place_found, some_place}
+use Rattle.posting.specs.File.{line_of}
+use Rattle.text.specs.Lists.{overlay}
+use Rattle.batch.proofs.ActionWays.{place_found, some_place, line_put, status_put}
 
 -- ---- where an action is accepted
 pub or_both : (a b : Answer) → (or_else a b).code ≡ 0 → (a.code ≡ 0) × (b.code ≡ 0)
@@ -89,21 +91,24 @@ module _ (file body : List ℕ) (held kind : ℕ) (pre : Acceptable file held ki
         some_place r (rw (en.0, ei) (live_found file body held live))
 
 -- ---- act
-pub acted_add : (file t body : List ℕ) (held kind : ℕ) → kind ≡ 1 → t ≡ with_line file held body → t ≡ action_file file held kind body
+pub acted_add : (file t line body : List ℕ) (held kind : ℕ) → kind ≡ 1 → line ≡ line_of body → t ≡ overlay file (held * 401 + 0) line → t ≡ action_file file held kind body
 unfolding action_file
-acted_add file t body held kind k e = rw k e
+acted_add file t line body held kind k el e = rw k (e ∙ line_put file line body held el)
 
 module _ (file t body id : List ℕ) (held kind : ℕ) (r : Option ℕ) (en : (number_of_place r ≡ record_number file id held) × (number_of_place r ≤ held)) (k : ℕ) (q : r ≡ Some k) where
   pub place_is : place_of file id held ≡ k
   place_is = omega (arith, (place_found file id held r en k q).0)
 
-  pub acted_amend : kind ≡ 3 → id ≡ field_of body 1 → t ≡ with_line file k body → t ≡ action_file file held kind body
-  unfolding action_file
-  acted_amend kk ei e = rw kk (e ∙ ap (λ (x : ℕ). with_line file x body) (sym place_is ∙ ap (λ (x : List ℕ). place_of file x held) ei))
+  pub place_within : held * 401 ≤ length file → k * 401 + 401 ≤ length file
+  place_within fits = omega (arith, fits, (place_found file id held r en k q).1)
 
-  pub acted_cancel : kind ≡ 2 → id ≡ body → t ≡ with_cancelled file k → t ≡ action_file file held kind body
+  pub acted_amend : (line : List ℕ) → kind ≡ 3 → id ≡ field_of body 1 → line ≡ line_of body → t ≡ overlay file (k * 401 + 0) line → t ≡ action_file file held kind body
   unfolding action_file
-  acted_cancel kk ei e = rw kk (e ∙ ap (with_cancelled file) (sym place_is ∙ ap (λ (x : List ℕ). place_of file x held) ei))
+  acted_amend line kk ei el e = rw kk (e ∙ line_put file line body k el ∙ ap (λ (x : ℕ). with_line file x body) (sym place_is ∙ ap (λ (x : List ℕ). place_of file x held) ei))
+
+  pub acted_cancel : held * 401 ≤ length file → kind ≡ 2 → id ≡ body → t ≡ overlay file (k * 401 + 340) (48 ∷ 32 ∷ []) → t ≡ action_file file held kind body
+  unfolding action_file
+  acted_cancel fits kk ei e = rw kk (e ∙ status_put file k 48 32 (place_within fits) ∙ ap (with_cancelled file) (sym place_is ∙ ap (λ (x : List ℕ). place_of file x held) ei))
 
 -- ---- entries
 module _ (j : List ℕ) (end at : ℕ) (a : Bool) (ea : a ≡ head_stands j end at 403 147 1 1) where

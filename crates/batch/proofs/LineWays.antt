@@ -7,8 +7,6 @@ use mathlib.Core.List.{List, [], ◌∷◌, ◌++◌, append_assoc}
 use native.Mathlib.Nat.{add-sub_cancel_left}
 use native.Mathlib.Omega.{arith}
 use borrow.Author.Tests.{eq-eqb, eqb-true, eqb-false, not-true, not-false}
-use mir.Syntax.{w64}
-use mir.Val.{Fits}
 use lib.Dec.{eqb}
 use lib.ListN.{length, get_or, set, take, drop, length-append, length-drop, length-set, take-append-drop}
 use lib.Seq.{set_split, take_at, drop_at, get_or_at, take-add, take_all, drop-drop, length-take-le}
@@ -141,35 +139,11 @@ module _ (file journal : List ℕ) (held : ℕ) (marks : List ℕ) (pre : Marked
   abbrev from : ℕ
   from = get_or marks k 0 / 2 + 4
 
-  pub mark_inside : k < length marks
-  mark_inside = omega (arith, low, pre.marked)
-
-  pub mark_scaled : Fits w64 (k * 4)
-  mark_scaled = record { fits = omega (arith, low, pre.few) }
-
-  pub mark_wide : Fits w64 (get_or marks k 0)
-  mark_wide = record { fits = omega (arith, pre.there k low, pre.bounded) }
-
-  pub from_fits : Fits w64 (get_or marks k 0 / 2 + 4)
-  from_fits = record { fits = omega (arith, pre.there k low, pre.bounded) }
-
-  pub to_fits : Fits w64 (get_or marks k 0 / 2 + 4 + 399)
-  to_fits = record { fits = omega (arith, pre.there k low, pre.bounded) }
-
   pub to_inside : get_or marks k 0 / 2 + 4 + 399 ≤ length journal
   to_inside = omega (arith, pre.there k low)
 
-  pub place_scaled : Fits w64 (k * 401)
-  place_scaled = record { fits = omega (arith, low, pre.few) }
-
-  pub place_ends : Fits w64 (k * 401 + 401)
-  place_ends = record { fits = omega (arith, low, pre.few) }
-
   pub place_inside : k * 401 + 401 ≤ length file
   place_inside = omega (arith, low, pre.places)
-
-  pub line_wide : length (take (k * 401 + 401 - k * 401) (drop (k * 401) file)) ≡ 401
-  line_wide = ap (λ (w : ℕ). length (take w (drop (k * 401) file))) (add-sub_cancel_left (k * 401) 401) ∙ length-take-le 401 (drop (k * 401) file) (omega (arith, length-drop (k * 401) file, place_inside))
 
   pub record_wide : length (take (from + 399 - from) (drop from journal)) ≡ 399
   record_wide = ap (λ (w : ℕ). length (take w (drop from journal))) (add-sub_cancel_left from 399) ∙ length-take-le 399 (drop from journal) (omega (arith, length-drop from journal, to_inside))

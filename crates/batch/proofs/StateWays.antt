@@ -1,15 +1,14 @@
 -- The lengths of the buffers and the totals of a file, as the code finds them.
 -- Assumes nothing.
-use Prim.Native.Nat.{ℕ, ◌+◌, ◌-◌, ◌*◌, ◌%◌, ◌≤◌, ◌<◌}
-use mathlib.Core.Path.{◌≡◌, refl, sym, ◌∙◌}
+use Prim.Native.Nat.{ℕ, ◌+◌, ◌*◌, ◌%◌, ◌≤◌, ◌<◌}
+use mathlib.Core.Path.{◌≡◌, refl, sym, ap, ◌∙◌}
 use mathlib.Core.Bool.{Bool, true, false, not, ◌&&◌, and-eq-true_iff}
 use mathlib.Core.List.{List}
-use native.Mathlib.Nat.{add-sub_cancel_left}
 use native.Mathlib.Numerals.{add-one}
 use native.Mathlib.Omega.{arith}
 use borrow.Author.Tests.{leb-true, eq-eqb, eqb-true, not-true, not-false}
 use lib.Dec.{eqb, leb}
-use lib.ListN.{length, take, drop}
+use lib.ListN.{length}
 use Rattle.std.specs.Prelude.{Option, unwrap_or}
 use Rattle.text.proofs.Booleans.{clash}
 use Rattle.posting.specs.declared.Totals.{Totals}
@@ -66,11 +65,11 @@ unfolding totals_over
 totals_start file t l k d q = λ i. totals (l i) (k i) (d i) (q i)
 
 pub totals_on : (file : List ℕ) (n i : ℕ) (t b t' : Totals) (s : Option Totals) → (n ≤ 999) × (n * 401 ≤ length file) → i < n → t ≡ totals_over file i
-    → b ≡ brought (take (i * 401 + 399 - i * 401) (drop (i * 401) file)) → s ≡ sum_of_totals t b → t' ≡ unwrap_or s t → t' ≡ totals_over file (i + 1)
+    → (rec : List ℕ) → rec ≡ record_at file i → b ≡ brought rec → s ≡ sum_of_totals t b → t' ≡ unwrap_or s t → t' ≡ totals_over file (i + 1)
 unfolding totals_over
-totals_on file n i t b t' s pre h e eb es er =
+totals_on file n i t b t' s pre h e rec at eb es er =
     let small : Small t = rw e (small_so_far file i (omega (arith, pre.0))) in
-    let here : b ≡ brought (record_at file i) = eb ∙ rw add-sub_cancel_left in
+    let here : b ≡ brought (record_at file i) = eb ∙ ap brought at in
     small_with t b t' s (record_at file i) small here es er ∙ rw (e, add-one i)
 
 pub totals_end : (file : List ℕ) (n i : ℕ) (t : Totals) → i ≤ n → n ≤ i → t ≡ totals_over file i → t ≡ totals_over file n

@@ -12,6 +12,7 @@ use lib.Seq.{length-take-le}
 use Rattle.psc.specs.Table.{Known}
 use Rattle.ident.specs.declared.consignor.Consignor.{Consignor}
 use Rattle.batch.specs.declared.entries.Kind.{Kind}
+use Rattle.batch.specs.declared.test.Named.{Named}
 use Rattle.batch.specs.declared.test.Reached.{Reached}
 use Rattle.std.specs.Prelude.{Option, Some, None, IsSome}
 use Rattle.std.proofs.lemmas.Option.{none-some, same_Some}
@@ -96,7 +97,7 @@ module _ (file journal : List ℕ) (end held used : ℕ) (marks table : List ℕ
     pub step_ends : used + 4 + n ≤ length journal
     step_ends = omega (arith, long_is, here.within, pre.within)
 
-    module _ (seen : Option Consignor) (r : Option (Option Consignor)) (marks' table' : List ℕ) {known : Known} (m : MarkedEntry known file held seen used (number_of_kind kind) (take (used + 4 + n - (used + 4)) (drop (used + 4) journal)) marks table r marks' table') where
+    module _ (seen : Option Consignor) (r : Option Named) (marks' table' : List ℕ) {known : Known} (m : MarkedEntry known file held seen used (number_of_kind kind) (take (used + 4 + n - (used + 4)) (drop (used + 4) journal)) marks table r marks' table') where
       part_is : (a : Action) → number_of_kind kind ≡ number_of a → body_at journal used (number_of a) ≡ body_of a → body_of a ≡ take (used + 4 + n - (used + 4)) (drop (used + 4) journal)
       part_is a k b =
           sym b ∙ ap (λ (w : ℕ). take (body_length w) (drop (used + 4) journal)) (sym k) ∙ ap (λ (w : ℕ). take w (drop (used + 4) journal)) (sym en.0 ∙ sym (add-sub_cancel_left (used + 4) n))
@@ -110,14 +111,14 @@ module _ (file journal : List ℕ) (end held used : ℕ) (marks table : List ℕ
         long = m.long;
       }
 
-      pub step_judged : (seen' : Option Consignor) → r ≡ Some seen' → (h : ℕ) → h ≡ action_held held (number_of_kind kind)
-          → Stepped known file journal end held seen used marks table (Some (record { held = h; seen = seen'; used = used + 4 + n; last = used })) marks' table'
-      step_judged seen' so h eh =
-          let reached : Reached = record { held = h; seen = seen'; used = used + 4 + n; last = used } in
+      pub step_judged : (named : Named) → r ≡ Some named → (h : ℕ) → h ≡ action_held held (number_of_kind kind)
+          → Stepped known file journal end held seen used marks table (Some (record { held = h; seen = named.seen; used = used + 4 + n; last = used })) marks' table'
+      step_judged named so h eh =
+          let reached : Reached = record { held = h; seen = named.seen; used = used + 4 + n; last = used } in
           let taken : StepTaken known file journal end held seen used marks reached marks' table' = record {
             action = here.act;
             entry = record { size = sized_so here.act here.sized; bytes = here.bytes; within = here.within };
-            taken = (m.judges here.act (sym kind_is) (part_is here.act kind_is here.body)).if_so seen' so;
+            taken = (m.judges here.act (sym kind_is) (part_is here.act kind_is here.body)).if_so named so;
             holds = eh ∙ ap (action_held held) kind_is ∙ held_same held here.act;
             moves = omega (arith, long_is);
             from = refl;

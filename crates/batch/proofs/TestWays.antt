@@ -7,7 +7,7 @@ use mathlib.Core.List.{List}
 use native.Mathlib.Nat.{add-zero, add-sub_cancel_left}
 use native.Mathlib.Omega.{arith}
 use borrow.Author.Tests.{eq-eqb, ne_eqb, eqb-false}
-use mir.Syntax.{w32, w64}
+use mir.Syntax.{w64}
 use mir.Val.{Fits}
 use lib.ListN.{length, get_or, set, take, drop}
 use Rattle.std.specs.Prelude.{Option, Some, None, is_some, Result, Ok, Err, is_err, ⊤}
@@ -29,6 +29,7 @@ use Rattle.ident.specs.declared.consignor.Consignor.{Consignor}
 use Rattle.ident.specs.Consignor.{another, or_named}
 use Rattle.record.specs.declared.RecordCheck.{RecordCheck}
 use Rattle.record.specs.Consignors.{WithConsignor, consignor_of}
+use Rattle.batch.specs.declared.test.Named.{Named}
 use Rattle.batch.specs.Records.{id_of}
 use Rattle.batch.specs.Rules.{posted}
 use Rattle.batch.specs.Test.{odd, Noted, live_from, live_in, Adds, Added}
@@ -117,17 +118,18 @@ module _ (known : Known) (file : List ℕ) (held : ℕ) (seen : Option Consignor
       added_twice z = not_added table' long_still (λ p. slot_some t z (before_is ∙ p.new))
 
       pub added_now : 401 ≤ length file - held * 401 → (k : RecordCheck) → WithConsignor (posted known rec) rec k → is_err k.answer ≡ false → (w : Bool) → w ≡ another seen k.consignor → w ≡ false → is_some t ≡ false
-          → (n : Option Consignor) → n ≡ or_named seen k.consignor → Added known file held seen used rec marks table (Some n) (set marks held (used * 2)) table'
+          → (n : Option Consignor) → n ≡ or_named seen k.consignor → Added known file held seen used rec marks table (Some (record { seen = n })) (set marks held (used * 2)) table'
       added_now h k ek z w ew f u n en =
           let room : held * 401 + 401 ≤ length file = omega (arith, h) in
+          let named : Named = record { seen = n } in
           record {
             if_so = λ s q. record {
               passes = record { room = room; good = accepted_code k.answer (posted known rec) z ek.0; same = other k ek w ew ∙ f; own = own_here; new = sym before_is ∙ slot_none t u };
-              now_seen = sym (same_Some n s q) ∙ en ∙ ap (or_named seen) ek.1;
+              now_seen = ap (λ (x : Named). x.seen) (sym (same_Some named s q)) ∙ en ∙ ap (or_named seen) ek.1;
               now_marks = refl;
               noted = subst (Indexed file 0 (held + 1)) (sym put.notes) (indexed_more file 0 held table marking.noted (omega (arith, room, marking.room)) (omega (arith, marking.few)) (key_of_record file 0 held (omega arith) room));
             };
-            if_not = λ q. absurd (none-some n (sym q));
+            if_not = λ q. absurd (none-some named (sym q));
             long = long_still;
           }
 
@@ -150,6 +152,3 @@ module _ (file : List ℕ) (held : ℕ) (marks table id : List ℕ) (w : Option 
 
   pub live_mark_fits : Fits w64 (k * 4)
   live_mark_fits = record { fits = omega (arith, live_held, marking.few) }
-
-  pub mark_more_fits : Fits w32 (get_or marks k 0 + 1)
-  mark_more_fits = record { fits = omega (arith, marking.small k) }

@@ -4,17 +4,16 @@ use Prim.Native.Nat.{ℕ, ◌+◌, ◌-◌, ◌*◌, ◌≤◌, ◌<◌}
 use mathlib.Core.Path.{◌≡◌, refl, sym, ap, ◌∙◌, subst}
 use mathlib.Core.Bool.{Bool, true, false, cond, and-eq-true_iff}
 use mathlib.Core.List.{List, [], ◌∷◌, ◌++◌}
-use native.Mathlib.Nat.{add-sub_cancel_left, sub-zero}
+use native.Mathlib.Nat.{add-zero, sub-zero}
 use native.Mathlib.Omega.{arith}
 use borrow.Author.Tests.{eqb-true}
-use borrow.Rule.Slice.PartMut.{put_mid}
 use lib.ListN.{length, take, drop, length-append, length-drop}
 use lib.Seq.{take-append_seam, drop-append_seam, take-take, take-add, drop-drop, length-take-le}
 use Rattle.std.specs.Prelude.{Option, Some, IsSome}
 use Rattle.batch.specs.declared.entries.Kind.{Kind}
-use Rattle.text.specs.Lists.{same_bytes}
+use Rattle.text.specs.Lists.{same_bytes, overlay}
 use Rattle.layout.specs.Layout.{field_of}
-use Rattle.fields.specs.declared.amounts.Hellers.{Hellers}
+use Rattle.posting.specs.File.{line_of, record_at}
 use Rattle.batch.specs.declared.Counts.{Counts}
 use Rattle.batch.specs.Actions.{Action, Addition, Amendment, Cancellation, number_of, sized, all_sized, entry_of, entries_of}
 use Rattle.batch.specs.Records.{id_of, has_id}
@@ -23,18 +22,14 @@ use Rattle.batch.specs.Entries.{number_of_kind, number_of_found, body_length, ki
 use Rattle.batch.specs.Batch.{counts_of, zeros}
 use Rattle.batch.specs.Test.{record_from, EntryAt}
 use Rattle.batch.specs.Undoing.{without_line, with_blank, one_revived, carried_by, carried_from, found_at, Entries, RecordBefore, CancellationOff, AmendmentOff}
-use Rattle.batch.proofs.CountWays.{Amount, lent_at, lent_is}
-use Rattle.batch.proofs.CallWays.{entry_cleared}
+use Rattle.batch.specs.declared.amounts.Amounts.{Amounts}
+use Rattle.batch.proofs.CountWays.{Read}
 use Rattle.batch.proofs.Made.{entry_long}
 use Rattle.batch.proofs.Reading.{entry_some}
 use Rattle.batch.proofs.StepWays.{kind_read, body_read, kind_told, kind_found}
 use Rattle.batch.proofs.Heads.{kind_some}
-use Rattle.batch.proofs.JournalWays.{place_is}
-
--- ---- the file
-pub line_cleared : (file part : List ℕ) (k : ℕ) → (k ≤ 999) × (k * 401 + 401 ≤ length file) → part ≡ zeros (length (take (k * 401 + 401 - k * 401) (drop (k * 401) file)))
-    → put_mid (k * 401) (k * 401 + 401 - k * 401) file part ≡ without_line file k
-line_cleared file part k pre e = entry_cleared file part (k * 401) (k * 401 + 401) (omega arith, pre.1) e ∙ rw (add-sub_cancel_left (k * 401) 401)
+use Rattle.batch.proofs.ActionWays.{line_put, status_put}
+use Rattle.batch.proofs.JournalWays.{place_is, place_within}
 
 -- ---- the walk: what the entries that are left carry
 pub record Looking (journal : List ℕ) (end : ℕ) (id : List ℕ) (found at : ℕ) : Type 0 where
@@ -203,19 +198,24 @@ module _ (file id : List ℕ) (c : Counts) (r : Option ℕ) (en : (number_of_pla
   place : k ≡ place_of file id c.held
   place = sym (place_is file [] [] id c.held 0 r en k q)
 
-  pub cancellation_off : (last : ℕ) (d p : Hellers) (m : Counts) (file' : List ℕ) → Amount (lent_at file k) 16 d → Amount (lent_at file k) 17 p
-      → m ≡ counts_of (one_revived c.totals d.0 p.0) c.held c.used → file' ≡ with_blank file k → CancellationOff file c last id (counts_of m.totals m.held last) file'
-  cancellation_off last d p m file' ed ep em ef = record {
-    filed = ef ∙ ap (with_blank file) place;
-    counted = rw (em, ed.0, ep.0, lent_is file k, place);
-  }
+  module _ (standing : Amounts) (rec : List ℕ) (er : rec ≡ record_at file k) (ea : Read rec standing) where
+    pub cancellation_off : c.held * 401 ≤ length file → (last : ℕ) (m : Counts) (file' : List ℕ) → m ≡ counts_of (one_revived c.totals standing.cash.0 standing.price.0) c.held c.used
+        → file' ≡ overlay file (k * 401 + 340) (32 ∷ 32 ∷ []) → CancellationOff file c last id (counts_of m.totals m.held last) file'
+    cancellation_off fits last m file' em ef = record {
+      filed = ef ∙ status_put file k 32 32 (place_within file [] [] id c.held 0 r en k q fits) ∙ ap (with_blank file) place;
+      counted = rw (em, ea.0, ea.1, er, place);
+    }
 
-  pub amendment_off : (old : List ℕ) → id ≡ field_of old 1 → (last : ℕ) (d p d' p' : Hellers) (m : Counts) (file' : List ℕ) → Amount (lent_at file k) 16 d → Amount (lent_at file k) 17 p
-      → Amount old 16 d' → Amount old 17 p'
-      → m ≡ counts_of (amounts_replaced c.totals d.0 p.0 d'.0 p'.0) c.held c.used → file' ≡ with_line file k old → AmendmentOff file c last old (counts_of m.totals m.held last) file'
-  amendment_off old ei last d p d' p' m file' ed ep ed' ep' em ef =
-      let at : k ≡ place_of file (id_of old) c.held = place ∙ ap (λ (x : List ℕ). place_of file x c.held) ei in
-      record {
-        filed = ef ∙ ap (λ (x : ℕ). with_line file x old) at;
-        counted = rw (em, ed.0, ep.0, ed'.0, ep'.0, lent_is file k, at);
-      }
+    pub amendment_off : (old : List ℕ) → id ≡ field_of old 1 → (back : Amounts) → Read old back → (line : List ℕ) → line ≡ line_of old → (last : ℕ) (m : Counts) (file' : List ℕ)
+        → m ≡ counts_of (amounts_replaced c.totals standing.cash.0 standing.price.0 back.cash.0 back.price.0) c.held c.used → file' ≡ overlay file (k * 401 + 0) line
+        → AmendmentOff file c last old (counts_of m.totals m.held last) file'
+    amendment_off old ei back eb line el last m file' em ef =
+        let at : k ≡ place_of file (id_of old) c.held = place ∙ ap (λ (x : List ℕ). place_of file x c.held) ei in
+        record {
+          filed = ef ∙ line_put file line old k el ∙ ap (λ (x : ℕ). with_line file x old) at;
+          counted = rw (em, ea.0, ea.1, eb.0, eb.1, er, at);
+        }
+
+-- the last place becomes zero
+pub place_cleared : (file file' : List ℕ) (k : ℕ) → file' ≡ overlay file (k * 401 + 0) (zeros 401) → file' ≡ without_line file k
+place_cleared file file' k e = e ∙ ap (λ (a : ℕ). overlay file a (zeros 401)) (add-zero (k * 401))

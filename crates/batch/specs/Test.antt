@@ -11,6 +11,8 @@ use Rattle.record.specs.Readings.{cancelled_rec}
 use Rattle.record.specs.Consignors.{consignor_of, first_of}
 use Rattle.posting.specs.File.{line_of}
 use Rattle.batch.specs.declared.Counts.{Counts}
+use Rattle.batch.specs.declared.test.Walk.{Walk}
+use Rattle.batch.specs.declared.test.Named.{Named}
 use Rattle.batch.specs.declared.test.Reached.{Reached}
 use Rattle.batch.specs.declared.test.Finding.{Finding}
 use Rattle.batch.specs.Actions.{Action, Addition, Amendment, Cancellation, number_of, body_of, sized, entry_of, entries_of}
@@ -38,6 +40,10 @@ pub record Noted (file : List ℕ) (held : ℕ) (marks table : List ℕ) : Type 
   pub small : (i : ℕ) → get_or marks i 0 / 2 ≤ 1048576
   pub bounds : length file ≤ 400599
 
+-- what a walk looks up stays, and there are as many marks
+abbrev pub Kept : Walk → Walk → Type 0
+Kept old new = (new.file.now ≡ old.file.now) × (new.psc.now ≡ old.psc.now) × (length new.marks.now ≡ length old.marks.now)
+
 -- the live consignment with an identifier
 unfoldable pub live_from : List ℕ → ℕ → Option ℕ
 live_from marks zero = None
@@ -60,8 +66,8 @@ pub record AddedNow (known : Known) (file : List ℕ) (held : ℕ) (seen : Optio
   pub now_marks : marks' ≡ set marks held (used * 2)
   pub noted : Indexed file 0 (held + 1) table'
 
-pub record Added (known : Known) (file : List ℕ) (held : ℕ) (seen : Option Consignor) (used : ℕ) (rec marks table : List ℕ) (r : Option (Option Consignor)) (marks' table' : List ℕ) : Type 0 where
-  pub if_so : (seen' : Option Consignor) → r ≡ Some seen' → AddedNow known file held seen used rec marks table seen' marks' table'
+pub record Added (known : Known) (file : List ℕ) (held : ℕ) (seen : Option Consignor) (used : ℕ) (rec marks table : List ℕ) (r : Option Named) (marks' table' : List ℕ) : Type 0 where
+  pub if_so : (n : Named) → r ≡ Some n → AddedNow known file held seen used rec marks table n.seen marks' table'
   pub if_not : r ≡ None → Adds known file held seen rec → ⊥
   pub long : length table' ≡ length table
 
@@ -119,12 +125,12 @@ pub record Taken (known : Known) (file : List ℕ) (held : ℕ) (seen : Option C
   pub left : marks' ≡ marks_after known file held seen used marks a meets
   pub noted : Indexed file 0 (held_after held a) table'
 
-pub record Judged (known : Known) (file : List ℕ) (held : ℕ) (seen : Option Consignor) (used : ℕ) (marks : List ℕ) (a : Action) (r : Option (Option Consignor)) (marks' table' : List ℕ) : Type 0 where
-  pub if_so : (seen' : Option Consignor) → r ≡ Some seen' → Taken known file held seen used marks a seen' marks' table'
+pub record Judged (known : Known) (file : List ℕ) (held : ℕ) (seen : Option Consignor) (used : ℕ) (marks : List ℕ) (a : Action) (r : Option Named) (marks' table' : List ℕ) : Type 0 where
+  pub if_so : (n : Named) → r ≡ Some n → Taken known file held seen used marks a n.seen marks' table'
   pub if_not : r ≡ None → Meets known file held seen marks a → ⊥
 
 -- of the action with this number and this body
-pub record MarkedEntry (known : Known) (file : List ℕ) (held : ℕ) (seen : Option Consignor) (used number : ℕ) (body marks table : List ℕ) (r : Option (Option Consignor)) (marks' table' : List ℕ) : Type 0 where
+pub record MarkedEntry (known : Known) (file : List ℕ) (held : ℕ) (seen : Option Consignor) (used number : ℕ) (body marks table : List ℕ) (r : Option Named) (marks' table' : List ℕ) : Type 0 where
   pub judges : (a : Action) → number_of a ≡ number → body_of a ≡ body → Judged known file held seen used marks a r marks' table'
   pub long : length table' ≡ length table
 

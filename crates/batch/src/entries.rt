@@ -46,6 +46,7 @@ fn starts_entry(journal: &[u8], end: usize, at: usize, kind: Kind) -> bool
         return false;
     }
     let head = kind.head();
+    // `&` and not `&&`: four comparisons with no branch between them, at each step of a walk.
     (journal[at] == head[0])
         & (journal[at + 1] == head[1])
         & (journal[at + 2] == head[2])

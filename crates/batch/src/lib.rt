@@ -11,11 +11,13 @@ ghost use Rattle.batch.specs.Entries.{number_of_kind, action_of};
 ghost use Rattle.batch.specs.History.{call_of};
 ghost use Rattle.batch.specs.Batch.{right_lengths, counts_of, counts_or, no_counts, batch_of, Add, Amend, Cancel, Undo, Called, Opened};
 
+mod amounts; // the two amounts of a consignment
 mod entries; // the entries of the journal
 mod places; // the places of the file buffer
 mod test; // whether file, journal and counts are what the entries make
 mod undoing; // the way back: the latest action taken off
 
+use amounts::Amounts;
 use entries::{Kind, clear_entry, put_entry};
 use fields::Hellers;
 use ident::Consignor;
@@ -37,6 +39,7 @@ pub struct Counts {
 fn right_lengths(n: usize, m: usize) -> bool
     ensures { result ≡ right_lengths n m }
 {
+    // `&` and not `&&`: the whole is then the definition, with no path of its own for each comparison.
     (n % 401 == 0) & (401 <= n) & (n <= 400_599) & (403 <= m) & (m <= 1_048_576)
 }
 
@@ -62,18 +65,19 @@ fn less(a: Hellers, b: Hellers) -> Hellers
     Hellers(a.0.saturating_sub(b.0))
 }
 
+// That the sums are small, `Small`, is asked by three methods and not of each value: C's counts come in with any sums.
 impl Counts {
     // One live more, with its two amounts.
-    fn one_live_more(self, cash: Hellers, price: Hellers) -> Self
-        requires { (Small self.totals) × (self.held ≤ 999) × (cash.0 < 100000000000) × (price.0 < 100000000000) }
-        ensures { result ≡ counts_of (one_live_more self.totals cash.0 price.0) (self.held + 1) self.used }
+    fn one_live_more(self, new: Amounts) -> Self
+        requires { (Small self.totals) × (self.held ≤ 999) }
+        ensures { result ≡ counts_of (one_live_more self.totals new.cash.0 new.price.0) (self.held + 1) self.used }
     {
         let t = self.totals;
         let one = Totals {
             live: 1,
             cancelled: 0,
-            cash,
-            price,
+            cash: new.cash,
+            price: new.price,
         };
         Counts {
             totals: t.plus(one).unwrap_or(t),
@@ -83,44 +87,38 @@ impl Counts {
     }
 
     // One live consignment cancelled: its two amounts leave the sums.
-    fn one_cancelled(self, cash: Hellers, price: Hellers) -> Self
+    fn one_cancelled(self, old: Amounts) -> Self
         requires { Small self.totals }
-        ensures { result ≡ counts_of (one_cancelled self.totals cash.0 price.0) self.held self.used }
+        ensures { result ≡ counts_of (one_cancelled self.totals old.cash.0 old.price.0) self.held self.used }
     {
         let t = self.totals;
         let totals = Totals {
             live: t.live.saturating_sub(1),
             cancelled: t.cancelled + 1,
-            cash: less(t.cash, cash),
-            price: less(t.price, price),
+            cash: less(t.cash, old.cash),
+            price: less(t.price, old.price),
         };
         Counts { totals, ..self }
     }
 
     // The amounts of one consignment replaced by others.
-    fn amounts_replaced(
-        self,
-        old_cash: Hellers,
-        old_price: Hellers,
-        cash: Hellers,
-        price: Hellers,
-    ) -> Self
-        requires { (Small self.totals) × (cash.0 < 100000000000) × (price.0 < 100000000000) }
-        ensures { result ≡ counts_of (amounts_replaced self.totals old_cash.0 old_price.0 cash.0 price.0) self.held self.used }
+    fn amounts_replaced(self, old: Amounts, new: Amounts) -> Self
+        requires { Small self.totals }
+        ensures { result ≡ counts_of (amounts_replaced self.totals old.cash.0 old.price.0 new.cash.0 new.price.0) self.held self.used }
     {
         let t = self.totals;
         let rest = Totals {
-            cash: less(t.cash, old_cash),
-            price: less(t.price, old_price),
+            cash: less(t.cash, old.cash),
+            price: less(t.price, old.price),
             ..t
         };
-        let new = Totals {
+        let added = Totals {
             live: 0,
             cancelled: 0,
-            cash,
-            price,
+            cash: new.cash,
+            price: new.price,
         };
-        let totals = rest.plus(new).unwrap_or(rest);
+        let totals = rest.plus(added).unwrap_or(rest);
         Counts { totals, ..self }
     }
 
@@ -146,21 +144,14 @@ fn counted(file: &[u8], c: Counts, kind: Kind, body: &[u8]) -> Counts
         count: c.held,
     };
     match kind {
-        Kind::Addition => c.one_live_more(posting::amount(body, 16), posting::amount(body, 17)),
+        Kind::Addition => c.one_live_more(Amounts::of(body)),
         Kind::Amendment => {
             let k = records.place_with(layout::field(body, 1)).unwrap();
-            let old = &file[k * 401..k * 401 + 399];
-            c.amounts_replaced(
-                posting::amount(old, 16),
-                posting::amount(old, 17),
-                posting::amount(body, 16),
-                posting::amount(body, 17),
-            )
+            c.amounts_replaced(Amounts::of(records.at(k)), Amounts::of(body))
         }
         Kind::Cancellation => {
             let k = records.place_with(body).unwrap();
-            let rec = &file[k * 401..k * 401 + 399];
-            c.one_cancelled(posting::amount(rec, 16), posting::amount(rec, 17))
+            c.one_cancelled(Amounts::of(records.at(k)))
         }
     }
 }
@@ -173,7 +164,8 @@ fn counts_after(file: &[u8], c: Counts, kind: Kind, body: &[u8]) -> Counts
     counted(file, c, kind, body).journal_grown(kind.body_length() + 4)
 }
 
-// ---- the calls
+// ---- the calls: both buffers are lent and the counts go in by value, as paper 01 has them. A body may have another length than its kind's, which is 236 here:
+// so kind and body are two values.
 
 // The work of an action on a batch in which something stands: 236, its own refusals, 231, or else file, journal and counts go on.
 fn enter(

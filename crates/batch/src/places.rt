@@ -1,16 +1,20 @@
 // The places of the file buffer: the consignment with an identifier, what an action meets there, and what it makes of the file.
 ghost use Rattle.std.specs.Prelude.{◌≡◌, ◌+◌, ◌-◌, ◌*◌, ◌≤◌, ◌<◌, length};
-ghost use Rattle.posting.specs.File.{line_of, totals_over};
+ghost use Rattle.posting.specs.File.{line_of, record_at, totals_over};
 ghost use Rattle.psc.specs.Search.{found};
 ghost use Rattle.text.specs.Answers.{answered};
+ghost use Rattle.text.specs.Lists.{overlay};
 ghost use Rattle.batch.specs.Entries.{number_of_kind};
-ghost use Rattle.batch.specs.Places.{number_of_place, record_number, live_answer, add_answer, amend_answer, cancel_answer, with_line, with_cancelled, action_answer, action_file, action_held};
+ghost use Rattle.batch.specs.Places.{number_of_place, record_number, live_answer, add_answer, amend_answer, cancel_answer, action_answer, action_file, action_held};
 ghost use Rattle.batch.specs.Work.{Acceptable};
 
 use crate::entries::Kind;
 use ident::Consignor;
 use posting::Totals;
 use text::Refusal;
+
+// Where the status, two bytes, starts in a record.
+pub(crate) const STATUS: usize = 340;
 
 // The records that stand at the front of a file buffer.
 #[derive(Clone, Copy)]
@@ -22,18 +26,24 @@ pub struct Held<'a> {
 }
 
 impl<'a> Held<'a> {
+    // The record at place k.
+    pub(crate) fn at(self, k: usize) -> &'a [u8]
+        requires { k < self.count }
+        ensures { result.now ≡ record_at self.entry.file.now k }
+    {
+        let file = self.file;
+        let start = k * 401;
+        &file[start..start + 399]
+    }
+
     // Their totals.
     pub(crate) fn totals(self) -> Totals
         ensures { result ≡ totals_over self.entry.file.now self.entry.count }
     {
-        let file = self.file;
         let n = self.count;
         let mut t = Totals::default();
         for i in 0..n {
-            let start = i * 401;
-            t = t
-                .plus(posting::brought(&file[start..start + 399]))
-                .unwrap_or(t);
+            t = t.plus(posting::brought(self.at(i))).unwrap_or(t);
         }
         t
     }
@@ -59,7 +69,7 @@ impl<'a> Held<'a> {
     {
         let k = self.place_with(id).ok_or(Refusal::NotPresent)?;
         let file = self.file;
-        if file[k * 401 + 340] == b'0' {
+        if file[k * 401 + STATUS] == b'0' {
             return Err(Refusal::Cancelled);
         }
         Ok(())
@@ -118,32 +128,32 @@ impl<'a> Held<'a> {
 
 // ---- what an action makes of the file
 
-// Writes a record and its line end into a place that is lent.
-fn write_line(line: &mut [u8], rec: &[u8])
-    requires { (length rec.now ≡ 399) × (length line.old ≡ 401) }
-    ensures { line.new ≡ line_of rec.now }
+// A record and its line end. The record is a part of a longer slice, as long as it was cut.
+pub(crate) fn line_of(rec: &[u8]) -> [u8; 401]
+    requires { length rec.now ≡ 399 }
+    ensures { result ≡ line_of rec.now }
 {
+    let mut line = [0; 401];
     line[..399].copy_from_slice(rec);
     line[399..].copy_from_slice(b"\r\n");
+    line
 }
 
-// Puts a record into place k: the middle part of the file is lent on, and all other bytes stay.
-pub(crate) fn put_line(file: &mut [u8], k: usize, rec: &[u8])
-    requires { (k ≤ 999) × (k * 401 + 401 ≤ length file.old) × (length rec.now ≡ 399) }
-    ensures { file.new ≡ with_line file.old k rec.now }
+// Writes bytes into a place that is lent, from its byte `at` on.
+fn write_place(place: &mut [u8], at: usize, bytes: &[u8])
+    requires { (length place.old ≡ 401) × (at + length bytes.now ≤ 401) }
+    ensures { place.new ≡ overlay place.old at bytes.now }
 {
-    let a = k * 401;
-    let e = a + 401;
-    write_line(&mut file[a..e], rec);
+    place[at..at + bytes.len()].copy_from_slice(bytes);
 }
 
-fn put_cancelled(file: &mut [u8], k: usize)
-    requires { (k ≤ 999) × (k * 401 + 401 ≤ length file.old) }
-    ensures { file.new ≡ with_cancelled file.old k }
+// Writes bytes into place k, from its byte `at` on: the middle part of the file is lent on, and all other bytes stay.
+pub(crate) fn put(file: &mut [u8], k: usize, at: usize, bytes: &[u8])
+    requires { (k ≤ 999) × (k * 401 + 401 ≤ length file.old) × (at + length bytes.now ≤ 401) }
+    ensures { file.new ≡ overlay file.old (k * 401 + at) bytes.now }
 {
-    let a = k * 401 + 340;
-    file[a] = b'0';
-    file[a + 1] = b' ';
+    let start = k * 401;
+    write_place(&mut file[start..start + 401], at, bytes);
 }
 
 // An acceptable action, done.
@@ -152,14 +162,14 @@ pub(crate) fn act(file: &mut [u8], held: usize, kind: Kind, body: &[u8])
     ensures { file.new ≡ action_file file.old held (number_of_kind kind) body.now }
 {
     match kind {
-        Kind::Addition => put_line(file, held, body),
+        Kind::Addition => put(file, held, 0, &line_of(body)),
         Kind::Amendment => {
             let records = Held {
                 file: &*file,
                 count: held,
             };
             let k = records.place_with(layout::field(body, 1)).unwrap();
-            put_line(file, k, body);
+            put(file, k, 0, &line_of(body));
         }
         Kind::Cancellation => {
             let records = Held {
@@ -167,7 +177,7 @@ pub(crate) fn act(file: &mut [u8], held: usize, kind: Kind, body: &[u8])
                 count: held,
             };
             let k = records.place_with(body).unwrap();
-            put_cancelled(file, k);
+            put(file, k, STATUS, b"0 ");
         }
     }
 }

@@ -1,10 +1,11 @@
 // The test of the state: whether file, journal and counts are what the journal's entries make from an opening, each acceptable in its turn.
 // Nothing is made anew. An identifier never moves from its place, so places are looked for in the lent file, and each has a mark: where
-// the entry of its latest record starts, twice, and one more where that is cancelled.
+// the entry of its latest record starts, twice, and one more where that is cancelled. Both are in one number, since each call clears all
+// marks: four bytes a place, where a struct of the two would take eight.
 ghost use Rattle.std.specs.Prelude.{◌≡◌, true, false, ◌+◌, ◌*◌, ◌/◌, ◌≤◌, ◌<◌, length};
 ghost use Rattle.posting.specs.File.{line_of};
 ghost use Rattle.psc.specs.Search.{found};
-ghost use Rattle.batch.specs.Test.{Noted, live_in, Added, Amended, Cancelled, MarkedEntry, Stepping, Stepped, Fresh, WalkedTo, LineSame, Marked, LinesSame, ToTest, Tested};
+ghost use Rattle.batch.specs.Test.{Noted, Kept, live_in, Added, Amended, Cancelled, MarkedEntry, Stepping, Stepped, Fresh, WalkedTo, LineSame, Marked, LinesSame, ToTest, Tested};
 ghost use Rattle.batch.specs.Entries.{number_of_kind};
 ghost use Rattle.batch.specs.Batch.{batch_of, right_lengths};
 
@@ -13,6 +14,12 @@ use crate::entries::{Kind, kind_at};
 use crate::places::{Held, held_after};
 use ident::Consignor;
 use index::Keyed;
+
+// The first consignor that the records noted so far name, who may be nobody.
+#[derive(Clone, Copy)]
+pub struct Named {
+    pub seen: Option<Consignor>,
+}
 
 // How far a walk through the journal has come: records held, the first consignor that they name, bytes used, and where the last entry starts.
 #[derive(Clone, Copy)]
@@ -30,178 +37,159 @@ pub struct Finding {
     pub last: usize,
 }
 
-// The live consignment with this identifier, of those that are noted.
-fn live_place(file: &[u8], held: usize, id: &[u8], marks: &[u32], table: &[u16]) -> Option<usize>
-    requires { Noted file.now held marks.now table.now }
-    ensures { result ≡ live_in file.now held marks.now id.now }
-{
-    let records = Keyed { file, from: 0 };
-    let k = records.find(table, id)?;
-    if marks[k] % 2 == 1 {
-        return None;
-    }
-    Some(k)
+// A walk through the journal: the file and the postcodes that it looks up, the marks, and the index of the records noted so far.
+// That they are noted, `Noted`, is asked by the methods and is no ghost field: an addition refused at the last leaves its place in the index.
+#[derive(Drop)]
+struct Walk<'a, 'm> {
+    file: &'a [u8],
+    psc: &'a [u32],
+    marks: &'m mut [u32],
+    table: &'m mut [u16],
 }
 
-// An addition: a place is left, the record is good and names no other consignor, the lent file has its identifier there, and no other has it.
-// Gives the first consignor that is named with it.
-fn mark_addition(
-    file: &[u8],
-    held: usize,
-    seen: Option<Consignor>,
-    used: usize,
-    rec: &[u8],
-    psc: &[u32],
-    marks: &mut [u32],
-    table: &mut [u16],
-) -> Option<Option<Consignor>>
-    requires { Noted file.now held marks.old table.old × (used < 2000000) }
-    ensures { Added (found psc.now) file.now held seen used rec.now marks.old table.old result marks.new table.new }
-{
-    let start = held * 401;
-    if file.len() - start < 401 {
-        return None;
-    }
-    let check = record::answer(rec, psc, true);
-    if check.answer.is_err() {
-        return None;
-    }
-    if ident::another(seen, check.consignor) {
-        return None;
-    }
-    if !ident::same(&file[start..start + 13], layout::field(rec, 1)) {
-        return None;
-    }
-    let records = Keyed { file, from: 0 };
-    if records.put(table, held).is_some() {
-        return None;
-    }
-    marks[held] = (used * 2) as u32;
-    Some(seen.or(check.consignor))
-}
-
-// An amendment: the record is good, and a live consignment has its identifier.
-fn mark_amendment(
-    file: &[u8],
-    held: usize,
-    used: usize,
-    rec: &[u8],
-    psc: &[u32],
-    marks: &mut [u32],
-    table: &[u16],
-) -> bool
-    requires { Noted file.now held marks.old table.now × (used < 2000000) }
-    ensures { Amended (found psc.now) file.now held used rec.now marks.old result marks.new }
-{
-    if record::answer(rec, psc, true).answer.is_err() {
-        return false;
-    }
-    let Some(k) = live_place(file, held, layout::field(rec, 1), marks, table) else {
-        return false;
-    };
-    marks[k] = (used * 2) as u32;
-    true
-}
-
-// A cancellation: the identifier is right, and a live consignment has it.
-fn mark_cancellation(file: &[u8], held: usize, id: &[u8], marks: &mut [u32], table: &[u16]) -> bool
-    requires { Noted file.now held marks.old table.now }
-    ensures { Cancelled file.now held id.now marks.old result marks.new }
-{
-    if ident::check(id).is_err() {
-        return false;
-    }
-    let Some(k) = live_place(file, held, id, marks, table) else {
-        return false;
-    };
-    marks[k] += 1;
-    true
-}
-
-// The entry that starts at `used`, of this kind and with this body, tested, and marked if it passes. Gives the first consignor that is named then.
-fn mark_entry(
-    file: &[u8],
-    held: usize,
-    seen: Option<Consignor>,
-    used: usize,
-    kind: Kind,
-    body: &[u8],
-    psc: &[u32],
-    marks: &mut [u32],
-    table: &mut [u16],
-) -> Option<Option<Consignor>>
-    requires { Noted file.now held marks.old table.old × (used < 2000000) }
-    ensures { MarkedEntry (found psc.now) file.now held seen used (number_of_kind kind) body.now marks.old table.old result marks.new table.new }
-{
-    match kind {
-        Kind::Addition => mark_addition(file, held, seen, used, body, psc, marks, table),
-        Kind::Amendment => {
-            mark_amendment(file, held, used, body, psc, marks, table).then_some(seen)
+impl Walk<'_, '_> {
+    // The live consignment with this identifier, of those that are noted.
+    fn live_place(&self, held: usize, id: &[u8]) -> Option<usize>
+        requires { Noted self.now.file.now held self.now.marks.now self.now.table.now }
+        ensures { result ≡ live_in self.now.file.now held self.now.marks.now id.now }
+    {
+        let records = Keyed {
+            file: self.file,
+            from: 0,
+        };
+        let k = records.find(self.table, id)?;
+        if self.marks[k] % 2 == 1 {
+            return None;
         }
-        Kind::Cancellation => mark_cancellation(file, held, body, marks, table).then_some(seen),
+        Some(k)
+    }
+
+    // An addition: a place is left, the record is good and names no other consignor, the lent file has its identifier there, and no other has it.
+    fn mark_addition(&mut self, at: Reached, rec: &[u8]) -> Option<Named>
+        requires { Noted self.old.file.now at.held self.old.marks.now self.old.table.now × (at.used < 2000000) }
+        ensures marked { Added (found self.old.psc.now) self.old.file.now at.held at.seen at.used rec.now self.old.marks.now self.old.table.now result self.new.marks.now self.new.table.now }
+        ensures kept { Kept self.old self.new }
+    {
+        let file = self.file;
+        let start = at.held * 401;
+        if file.len() - start < 401 {
+            return None;
+        }
+        let check = record::answer(rec, self.psc, true);
+        if check.answer.is_err() {
+            return None;
+        }
+        if ident::another(at.seen, check.consignor) {
+            return None;
+        }
+        if !ident::same(&file[start..start + 13], layout::field(rec, 1)) {
+            return None;
+        }
+        let records = Keyed { file, from: 0 };
+        if records.put(self.table, at.held).is_some() {
+            return None;
+        }
+        self.marks[at.held] = (at.used * 2) as u32;
+        Some(Named {
+            seen: at.seen.or(check.consignor),
+        })
+    }
+
+    // An amendment: the record is good, and a live consignment has its identifier. Yes or no, and nobody new is named.
+    fn mark_amendment(&mut self, at: Reached, rec: &[u8]) -> bool
+        requires { Noted self.old.file.now at.held self.old.marks.now self.old.table.now × (at.used < 2000000) }
+        ensures marked { Amended (found self.old.psc.now) self.old.file.now at.held at.used rec.now self.old.marks.now result self.new.marks.now }
+        ensures noted { self.new.table.now ≡ self.old.table.now }
+        ensures kept { Kept self.old self.new }
+    {
+        if record::answer(rec, self.psc, true).answer.is_err() {
+            return false;
+        }
+        let Some(k) = self.live_place(at.held, layout::field(rec, 1)) else {
+            return false;
+        };
+        self.marks[k] = (at.used * 2) as u32;
+        true
+    }
+
+    // A cancellation: the identifier is right, and a live consignment has it. Yes or no likewise.
+    fn mark_cancellation(&mut self, held: usize, id: &[u8]) -> bool
+        requires { Noted self.old.file.now held self.old.marks.now self.old.table.now }
+        ensures marked { Cancelled self.old.file.now held id.now self.old.marks.now result self.new.marks.now }
+        ensures noted { self.new.table.now ≡ self.old.table.now }
+        ensures kept { Kept self.old self.new }
+    {
+        if ident::check(id).is_err() {
+            return false;
+        }
+        let Some(k) = self.live_place(held, id) else {
+            return false;
+        };
+        self.marks[k] += 1;
+        true
+    }
+
+    // The entry that the walk has come to, of this kind and with this body, tested, and marked if it passes.
+    fn mark_entry(&mut self, at: Reached, kind: Kind, body: &[u8]) -> Option<Named>
+        requires { Noted self.old.file.now at.held self.old.marks.now self.old.table.now × (at.used < 2000000) }
+        ensures marked { MarkedEntry (found self.old.psc.now) self.old.file.now at.held at.seen at.used (number_of_kind kind) body.now self.old.marks.now self.old.table.now result self.new.marks.now self.new.table.now }
+        ensures kept { Kept self.old self.new }
+    {
+        match kind {
+            Kind::Addition => self.mark_addition(at, body),
+            Kind::Amendment => self
+                .mark_amendment(at, body)
+                .then_some(Named { seen: at.seen }),
+            Kind::Cancellation => self
+                .mark_cancellation(at.held, body)
+                .then_some(Named { seen: at.seen }),
+        }
+    }
+
+    // Tests the entry at the place that the walk has come to.
+    fn step(&mut self, journal: &[u8], end: usize, at: Reached) -> Option<Reached>
+        requires { Stepping self.old.file.now journal.now end at.held at.used self.old.marks.now self.old.table.now }
+        ensures stepped { Stepped (found self.old.psc.now) self.old.file.now journal.now end at.held at.seen at.used self.old.marks.now self.old.table.now result self.new.marks.now self.new.table.now }
+        ensures kept { Kept self.old self.new }
+    {
+        let kind = kind_at(journal, end, at.used)?;
+        let start = at.used + 4;
+        let next = start + kind.body_length();
+        let body = &journal[start..next];
+        let named = self.mark_entry(at, kind, body)?;
+        Some(Reached {
+            held: held_after(at.held, kind),
+            seen: named.seen,
+            used: next,
+            last: at.used,
+        })
+    }
+
+    // Walks through the journal's entries up to `end`.
+    fn through(&mut self, journal: &[u8], end: usize) -> Option<Reached>
+        requires { Fresh self.old.file.now journal.now end self.old.marks.now self.old.table.now }
+        ensures { WalkedTo (found self.old.psc.now) self.old.file.now journal.now end self.old.table.now result self.new.marks.now self.new.table.now }
+    {
+        let mut at = Reached {
+            held: 0,
+            seen: None,
+            used: 0,
+            last: 0,
+        };
+        // Entries have two lengths, and only the bytes say which: so the next place is not counted, but what the step has come to.
+        while at.used < end {
+            at = self.step(journal, end, at)?;
+        }
+        Some(at)
     }
 }
 
-// Tests the entry at `used`.
-fn step(
-    file: &[u8],
-    journal: &[u8],
-    end: usize,
-    held: usize,
-    seen: Option<Consignor>,
-    used: usize,
-    psc: &[u32],
-    marks: &mut [u32],
-    table: &mut [u16],
-) -> Option<Reached>
-    requires { Stepping file.now journal.now end held used marks.old table.old }
-    ensures { Stepped (found psc.now) file.now journal.now end held seen used marks.old table.old result marks.new table.new }
-{
-    let kind = kind_at(journal, end, used)?;
-    let start = used + 4;
-    let next = start + kind.body_length();
-    let body = &journal[start..next];
-    let seen = mark_entry(file, held, seen, used, kind, body, psc, marks, table)?;
-    Some(Reached {
-        held: held_after(held, kind),
-        seen,
-        used: next,
-        last: used,
-    })
-}
-
-// Walks through the journal's entries up to `end`.
-fn walk(
-    file: &[u8],
-    journal: &[u8],
-    end: usize,
-    psc: &[u32],
-    marks: &mut [u32],
-    table: &mut [u16],
-) -> Option<Reached>
-    requires { Fresh file.now journal.now end marks.old table.old }
-    ensures { WalkedTo (found psc.now) file.now journal.now end table.old result marks.new table.new }
-{
-    let mut at = Reached {
-        held: 0,
-        seen: None,
-        used: 0,
-        last: 0,
-    };
-    // Entries have two lengths, and only the bytes say which: so the next place is not counted, but what the step has come to.
-    while at.used < end {
-        at = step(
-            file, journal, end, at.held, at.seen, at.used, psc, marks, table,
-        )?;
-    }
-    Some(at)
-}
-
-// Whether a line of the file is the record with its line end, cancelled or as it is.
+// Whether a line of the file is the record with its line end, cancelled or as it is: parts of file and journal, as long as they were cut.
 fn line_same(line: &[u8], rec: &[u8], cancelled: bool) -> bool
     requires { (length line.now ≡ 401) × (length rec.now ≡ 399) }
     ensures { LineSame line.now rec.now cancelled result }
 {
+    // `&` and not `&&`, here and below: two bytes are one test, with no path of its own for each.
     let ended = (line[399] == 13) & (line[400] == 10);
     if !ended {
         return false;
@@ -236,7 +224,7 @@ fn lines_same(file: &[u8], journal: &[u8], held: usize, marks: &[u32]) -> bool
     true
 }
 
-// The test, with marks for all places and a table for an index of them, both fresh.
+// The test, with marks for all places and a table for an index of them, both fresh: a `Walk` is made of what is given.
 fn test_with(
     file: &[u8],
     journal: &[u8],
@@ -251,11 +239,17 @@ fn test_with(
     if journal.len() < c.used {
         return None;
     }
-    let reached = walk(file, journal, c.used, psc, marks, table)?;
+    let mut walk = Walk {
+        file,
+        psc,
+        marks,
+        table,
+    };
+    let reached = walk.through(journal, c.used)?;
     if reached.held != c.held {
         return None;
     }
-    if !lines_same(file, journal, c.held, marks) {
+    if !lines_same(file, journal, c.held, walk.marks) {
         return None;
     }
     if !text::zero(&file[c.held * 401..]) {

@@ -4,47 +4,27 @@ ghost use Rattle.std.specs.Prelude.{◌≡◌, ◌+◌, ◌-◌, ◌*◌, ◌≤
 ghost use Rattle.posting.specs.Bounds.{Small};
 ghost use Rattle.batch.specs.Batch.{counts_of};
 ghost use Rattle.batch.specs.Entries.{number_of_kind};
-ghost use Rattle.batch.specs.Undoing.{without_line, with_blank, one_live_less, one_revived, found_at, Entries, RecordBefore, Added, AdditionOff, Sought, CancellationOff, Amended, AmendmentOff, Undoable, TakenBack};
+ghost use Rattle.batch.specs.Undoing.{one_live_less, one_revived, found_at, Entries, RecordBefore, Added, AdditionOff, Sought, CancellationOff, Amended, AmendmentOff, Undoable, TakenBack};
 
+use crate::amounts::Amounts;
 use crate::entries::{Kind, kind_at};
-use crate::places::{Held, put_line};
+use crate::places::{Held, STATUS, line_of, put};
 use crate::{Counts, less};
 use fields::Hellers;
 use posting::Totals;
 
-// ---- the file
-
-// Sets place k to zero.
-fn clear_line(file: &mut [u8], k: usize)
-    requires { (k ≤ 999) × (k * 401 + 401 ≤ length file.old) }
-    ensures { file.new ≡ without_line file.old k }
-{
-    let start = k * 401;
-    file[start..start + 401].fill(0);
-}
-
-// Makes the status of the record at place k blank.
-fn put_blank(file: &mut [u8], k: usize)
-    requires { (k ≤ 999) × (k * 401 + 401 ≤ length file.old) }
-    ensures { file.new ≡ with_blank file.old k }
-{
-    let a = k * 401 + 340;
-    file[a] = b' ';
-    file[a + 1] = b' ';
-}
-
 // ---- the counts
 
 // One live less: its two amounts leave the sums.
-fn one_live_less(c: Counts, cash: Hellers, price: Hellers) -> Counts
+fn one_live_less(c: Counts, old: Amounts) -> Counts
     requires { 1 ≤ c.held }
-    ensures { result ≡ counts_of (one_live_less c.totals cash.0 price.0) (c.held - 1) c.used }
+    ensures { result ≡ counts_of (one_live_less c.totals old.cash.0 old.price.0) (c.held - 1) c.used }
 {
     let t = c.totals;
     let totals = Totals {
         live: t.live.saturating_sub(1),
-        cash: less(t.cash, cash),
-        price: less(t.price, price),
+        cash: less(t.cash, old.cash),
+        price: less(t.price, old.price),
         ..t
     };
     Counts {
@@ -55,18 +35,16 @@ fn one_live_less(c: Counts, cash: Hellers, price: Hellers) -> Counts
 }
 
 // A cancelled consignment live again: its two amounts come back.
-fn one_revived(c: Counts, cash: Hellers, price: Hellers) -> Counts
-    requires { (Small c.totals) × (cash.0 < 100000000000) × (price.0 < 100000000000) }
-    ensures { result ≡ counts_of (one_revived c.totals cash.0 price.0) c.held c.used }
+fn one_revived(c: Counts, back: Amounts) -> Counts
+    requires { Small c.totals }
+    ensures { result ≡ counts_of (one_revived c.totals back.cash.0 back.price.0) c.held c.used }
 {
     let t = c.totals;
-    let d = t.cash;
-    let p = t.price;
     let totals = Totals {
         live: t.live + 1,
         cancelled: t.cancelled.saturating_sub(1),
-        cash: Hellers(d.0 + cash.0),
-        price: Hellers(p.0 + price.0),
+        cash: Hellers(t.cash.0 + back.cash.0),
+        price: Hellers(t.price.0 + back.price.0),
     };
     Counts { totals, ..c }
 }
@@ -98,6 +76,7 @@ fn record_before(journal: &[u8], end: usize, id: &[u8]) -> usize
 {
     let mut found = 0;
     let mut at = 0;
+    // Entries have two lengths, and only the bytes say which: so the next place is not counted, but read.
     while at < end {
         let kind = kind_at(journal, end, at).unwrap();
         found = looked_at(journal, at, kind, id, found);
@@ -113,8 +92,8 @@ fn addition_off(file: &mut [u8], c: Counts, last: usize, rec: &[u8]) -> Counts
     requires { Added file.old c }
     ensures { AdditionOff file.old c last rec.now result file.new }
 {
-    let fewer = one_live_less(c, posting::amount(rec, 16), posting::amount(rec, 17));
-    clear_line(file, c.held - 1);
+    let fewer = one_live_less(c, Amounts::of(rec));
+    put(file, c.held - 1, 0, &[0; 401]);
     Counts {
         used: last,
         ..fewer
@@ -131,16 +110,12 @@ fn cancellation_off(file: &mut [u8], c: Counts, last: usize, id: &[u8]) -> Count
         count: c.held,
     };
     let k = records.place_with(id).unwrap();
-    let start = k * 401;
-    let end = start + 399;
-    let cash = posting::amount(&file[start..end], 16);
-    let price = posting::amount(&file[start..end], 17);
-    let more = one_revived(c, cash, price);
-    put_blank(file, k);
+    let more = one_revived(c, Amounts::of(records.at(k)));
+    put(file, k, STATUS, b"  ");
     Counts { used: last, ..more }
 }
 
-// An amendment: the record before it comes back into its place.
+// An amendment: the record before it comes back into its place. Like the cancellation it looks for the place, but what it counts and puts is another.
 fn amendment_off(file: &mut [u8], c: Counts, last: usize, old: &[u8]) -> Counts
     requires { Amended file.old c old.now }
     ensures { AmendmentOff file.old c last old.now result file.new }
@@ -150,15 +125,8 @@ fn amendment_off(file: &mut [u8], c: Counts, last: usize, old: &[u8]) -> Counts
         count: c.held,
     };
     let k = records.place_with(layout::field(old, 1)).unwrap();
-    let start = k * 401;
-    let end = start + 399;
-    let amended = c.amounts_replaced(
-        posting::amount(&file[start..end], 16),
-        posting::amount(&file[start..end], 17),
-        posting::amount(old, 16),
-        posting::amount(old, 17),
-    );
-    put_line(file, k, old);
+    let amended = c.amounts_replaced(Amounts::of(records.at(k)), Amounts::of(old));
+    put(file, k, 0, &line_of(old));
     Counts {
         used: last,
         ..amended

@@ -1,7 +1,7 @@
 // The records of a file that was accepted.
 ghost use Rattle.std.specs.Prelude.{◌≡◌, ◌/◌, ◌%◌, ◌≤◌, ◌<◌, length};
 
-// Whole records, no more than 999.
+// Whole records, no more than 999. (`Held` of batch is of a buffer, which has room behind its records; here the file ends with them.)
 #[derive(Clone, Copy)]
 pub(crate) struct Records<'a> {
     pub(crate) file: &'a [u8],

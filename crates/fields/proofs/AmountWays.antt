@@ -2,19 +2,18 @@
 -- Assumes nothing.
 use Prim.Native.Nat.{ℕ, zero, suc, ◌+◌, ◌-◌, ◌*◌, ◌/◌, ◌%◌, ◌^◌, ◌≤◌, ◌<◌}
 use mathlib.Core.Path.{◌≡◌, refl, sym, ap, ◌∙◌}
-use mathlib.Core.Bool.{Bool, true, false, cond, not, ◌&&◌, ◌||◌, and-true}
+use mathlib.Core.Bool.{Bool, true, false, cond, not, ◌&&◌, ◌||◌}
 use mathlib.Core.List.{List, [], ◌∷◌, ◌++◌, append_assoc}
 use native.Mathlib.Nat.{sub-zero, zero-sub}
 use native.Mathlib.Omega.{arith}
-use borrow.Author.Tests.{eq-eqb, ne_eqb, lt-ltb, le-ltb, le-leb, lt-leb, eqb-true, leb-true, not-true, not-false}
+use borrow.Author.Tests.{lt-ltb, le-ltb, eqb-true, leb-true, ltb-true}
 use borrow.Rule.Slice.PartMut.{mid_len}
 use mir.Syntax.{w64}
 use mir.Val.{Fits}
 use lib.Dec.{eqb, leb, ltb}
-use lib.ListN.{length, get_or, take, drop, set, replicate, length-append, length-set}
+use lib.ListN.{length, get_or, take, drop, set, replicate, length-append}
 use lib.Seq.{get_or-drop, take_at, drop_at, set_at, drop-drop, length-take-le}
 use Rattle.std.specs.Prelude.{Option, Some, None, SomeIff, IsSomeAnd, MatchOption}
-use Rattle.text.specs.Answers.{answer, accepted, wrong_length}
 use Rattle.text.specs.Bytes.{is_digit, all_digits, is_blank}
 use Rattle.text.specs.Lists.{part, overlay}
 use Rattle.text.specs.Numbers.{number_after, number_of, number_of_first, digits, decimal_places}
@@ -23,12 +22,9 @@ use Rattle.text.proofs.Lists.{spelled}
 use Rattle.text.proofs.Runs.{run_passes}
 use Rattle.text.proofs.Decimals.{decimal_places_at_most}
 use Rattle.text.proofs.Numbers.{few, ten_grows, number_below, length_digits, digit_bounds}
-use Rattle.fields.specs.declared.amounts.Grams.{Grams}
 use Rattle.fields.specs.declared.amounts.Hellers.{Hellers}
-use Rattle.fields.specs.declared.reading.Reading.TheVariants.{Absent, Value, Malformed}
-use Rattle.fields.specs.Readings.{WeightReading, MoneyReading}
-use Rattle.fields.specs.Amounts.{is_weight, grams_in, weight_text, crown_digits, is_money, hellers_in, absent_or_zero_money, money_text}
-use Rattle.fields.specs.Calls.{has_money_text, money_bytes, has_weight_text, weight_bytes, Written, MoneyWritten, WeightWritten, sum_of_hellers}
+use Rattle.fields.specs.Amounts.{is_weight, grams_in, weight_text, crown_digits, is_money, hellers_in, money_text}
+use Rattle.fields.specs.Calls.{sum_of_hellers}
 
 -- ---- the sum of two amounts
 pub sum_is : (a b : Hellers) (s : Option ℕ) (r : Option Hellers) → SomeIff s (a.0 + b.0 < 2 ^ 64) (a.0 + b.0)
@@ -39,54 +35,7 @@ sum_is a b (Some x) (Some h) fits is =
 sum_is a b (Some x) None fits is = absurd is
 sum_is a b None r large is = rw (le-ltb (a.0 + b.0) (2 ^ 64) (omega (arith, large))) is
 
--- ---- weight
-module _ (f : List ℕ) (p : Bool) (long : length f ≡ 6) (ep : p ≡ is_digit (get_or f 0 0)) where
-  abbrev first : Bool
-  first = eqb (get_or f 0 0) 32 || p && not (eqb (get_or f 0 0) 48)
-
-  weight_is : is_weight f ≡ (first && is_digit (get_or f 1 0) && eqb (get_or f 2 0) 46 && (is_digit (get_or f 3 0) && (is_digit (get_or f 4 0) && (is_digit (get_or f 5 0) && true))))
-  weight_is = rw (ep, spelled 6 f long)
-
-  pub weight_first : not first ≡ true → false ≡ is_weight f
-  weight_first h = rw (weight_is, not-true first h)
-
-  module _ (good : not first ≡ false) (q : Bool) (eq : q ≡ is_digit (get_or f 1 0)) where
-    pub weight_second : not q ≡ true → false ≡ is_weight f
-    weight_second h = rw (weight_is, not-false first good, ← eq, not-true q h)
-
-    module _ (yq : not q ≡ false) where
-      pub weight_dot : (get_or f 2 0 ≡ 46 → ⊥) → false ≡ is_weight f
-      weight_dot n = rw (weight_is, not-false first good, ← eq, not-false q yq, ne_eqb (get_or f 2 0) 46 n)
-
-      module _ (dot : get_or f 2 0 ≡ 46) (h : Bool) (eh : h ≡ is_digit (get_or f 3 0)) where
-        behind_dot : is_weight f ≡ (h && (is_digit (get_or f 4 0) && (is_digit (get_or f 5 0) && true)))
-        behind_dot = rw (weight_is, not-false first good, ← eq, not-false q yq, eq-eqb (get_or f 2 0) 46 dot, eh)
-
-        pub weight_hundreds : not h ≡ true → false ≡ is_weight f
-        weight_hundreds n = rw (behind_dot, not-true h n)
-
-        module _ (yh : not h ≡ false) (t : Bool) (et : t ≡ is_digit (get_or f 4 0)) where
-          pub weight_tens : not t ≡ true → false ≡ is_weight f
-          weight_tens n = rw (behind_dot, not-false h yh, ← et, not-true t n)
-
-          pub weight_ones : (o : Bool) → not t ≡ false → o ≡ is_digit (get_or f 5 0) → o ≡ is_weight f
-          weight_ones o yt eo = rw (behind_dot, not-false h yh, ← et, not-false t yt, ← eo, and-true o)
-
 -- ---- money
-module _ (f : List ℕ) (n : ℕ) (pre : (length f ≡ 12) × (n ≡ crown_digits f)) where
-  pub money_none : n < 1 → false ≡ is_money f
-  unfolding is_money
-  money_none h = rw (← pre.1, lt-leb 1 n h)
-
-  pub money_many : 1 ≤ n → 9 < n → false ≡ is_money f
-  unfolding is_money
-  money_many l h = rw (← pre.1, le-leb 1 n l, lt-leb n 9 h)
-
-  pub money_form : (d s : Bool) → 1 ≤ n → n ≤ 9 → d ≡ all_digits (part f (n + 1) (n + 3)) → s ≡ is_blank (part f (n + 3) 12)
-      → ((eqb n 1 || not (eqb (get_or f 0 0) 48)) && eqb (get_or f n 0) 46 && d && s) ≡ is_money f
-  unfolding is_money
-  money_form d s l h ed es = rw (← pre.1, le-leb 1 n l, le-leb n 9 h, ed, es)
-
 -- what an amount has, with p digits before its dot
 pub record Amount (f : List ℕ) (p : ℕ) : Type 0 where
   pub low : 1 ≤ p
@@ -113,35 +62,36 @@ amount_has f h =
       rest = a.1;
     }
 
-module _ (f : List ℕ) (n : ℕ) (pre : (length f ≡ 12) × (n ≡ crown_digits f) × (is_money f ≡ true)) where
+module _ (f : List ℕ) (n : ℕ) (pre : (n ≡ crown_digits f) × (is_money f ≡ true)) where
   has : Amount f (crown_digits f)
-  has = amount_has f pre.2
+  has = amount_has f pre.1
 
   pub nine_digits : (1 ≤ n) × (n ≤ 9)
-  nine_digits = (omega (arith, has.low, pre.1), omega (arith, has.high, pre.1))
+  nine_digits = (omega (arith, has.low, pre.0), omega (arith, has.high, pre.0))
 
-  crowns_small : (c : ℕ) → c ≡ number_of_first 16 (part f 0 n) → c < 1000000000
-  crowns_small c e =
-      let whole : c ≡ number_of (take n f) = e ∙ few f 0 n (omega (arith, nine_digits)) ∙ ap (λ (k : ℕ). number_of (take k f)) (sub-zero n) in
-      let all : all_digits (take n f) ≡ true = rw pre.1 (run_passes is_digit f) in
-      let below = number_below n (take n f) (length-take-le n f (omega (arith, nine_digits, pre.0))) all in
-      omega (arith, ten_grows n 9 nine_digits.1)
+  module _ (long : length f ≡ 12) where
+    crowns_small : (c : ℕ) → c ≡ number_of_first 16 (part f 0 n) → c < 1000000000
+    crowns_small c e =
+        let whole : c ≡ number_of (take n f) = e ∙ few f 0 n (omega (arith, nine_digits)) ∙ ap (λ (k : ℕ). number_of (take k f)) (sub-zero n) in
+        let all : all_digits (take n f) ≡ true = rw pre.0 (run_passes is_digit f) in
+        let below = number_below n (take n f) (length-take-le n f (omega (arith, nine_digits, long))) all in
+        omega (arith, ten_grows n 9 nine_digits.1)
 
-  two_digits_small : (p : ℕ) → p ≡ number_of_first 16 (part f (n + 1) (n + 3)) → p < 100
-  two_digits_small p e =
-      let whole : p ≡ number_of (part f (n + 1) (n + 3)) = e ∙ few f (n + 1) (n + 3) (omega arith) in
-      let all : all_digits (part f (n + 1) (n + 3)) ≡ true = rw pre.1 has.two_digits in
-      let two : length (part f (n + 1) (n + 3)) ≡ 2 = mid_len (n + 1) (n + 3) f (omega (arith, nine_digits, pre.0)) ∙ omega arith in
-      omega (arith, number_below 2 (part f (n + 1) (n + 3)) two all)
+    two_digits_small : (p : ℕ) → p ≡ number_of_first 16 (part f (n + 1) (n + 3)) → p < 100
+    two_digits_small p e =
+        let whole : p ≡ number_of (part f (n + 1) (n + 3)) = e ∙ few f (n + 1) (n + 3) (omega arith) in
+        let all : all_digits (part f (n + 1) (n + 3)) ≡ true = rw pre.0 has.two_digits in
+        let two : length (part f (n + 1) (n + 3)) ≡ 2 = mid_len (n + 1) (n + 3) f (omega (arith, nine_digits, long)) ∙ omega arith in
+        omega (arith, number_below 2 (part f (n + 1) (n + 3)) two all)
 
-  pub crowns_fit : (c : ℕ) → c ≡ number_of_first 16 (part f 0 n) → Fits w64 (c * 100)
-  crowns_fit c e = record { fits = omega (arith, crowns_small c e) }
+    pub crowns_fit : (c : ℕ) → c ≡ number_of_first 16 (part f 0 n) → Fits w64 (c * 100)
+    crowns_fit c e = record { fits = omega (arith, crowns_small c e) }
 
-  pub hellers_fit : (c p : ℕ) → c ≡ number_of_first 16 (part f 0 n) → p ≡ number_of_first 16 (part f (n + 1) (n + 3)) → Fits w64 (c * 100 + p)
-  hellers_fit c p ec ep = record { fits = omega (arith, crowns_small c ec, two_digits_small p ep) }
+    pub hellers_fit : (c p : ℕ) → c ≡ number_of_first 16 (part f 0 n) → p ≡ number_of_first 16 (part f (n + 1) (n + 3)) → Fits w64 (c * 100 + p)
+    hellers_fit c p ec ep = record { fits = omega (arith, crowns_small c ec, two_digits_small p ep) }
 
-  pub hellers_are : (c p : ℕ) → c ≡ number_of_first 16 (part f 0 n) → p ≡ number_of_first 16 (part f (n + 1) (n + 3)) → c * 100 + p ≡ hellers_in f
-  hellers_are c p ec ep = rw (ec, ep, few f 0 n (omega (arith, nine_digits)), few f (n + 1) (n + 3) (omega arith), pre.1)
+    pub hellers_are : (c p : ℕ) → c ≡ number_of_first 16 (part f 0 n) → p ≡ number_of_first 16 (part f (n + 1) (n + 3)) → c * 100 + p ≡ hellers_in f
+    hellers_are c p ec ep = rw (ec, ep, few f 0 n (omega (arith, nine_digits)), few f (n + 1) (n + 3) (omega arith), pre.0)
 
 -- ---- what a weight weighs
 weight_small : (f : List ℕ) → length f ≡ 6 → is_weight f ≡ true → (number_of (part f 0 2) ≤ 99) × (number_of (part f 3 6) ≤ 999)
@@ -160,35 +110,29 @@ weight_small f long h =
     small false e g = (digit_bounds (get_or f 0 0) (both (is_digit (get_or f 0 0)) (not (eqb (get_or f 0 0) 48)) g).0).1
 
 -- what the code multiplies and adds up has 64 bits, and is the grams
-module _ (f : List ℕ) (k m : ℕ) (pre : (length f ≡ 6) × (is_weight f ≡ true)) (ek : k ≡ number_of_first 16 (part f 0 2)) where
+module _ (f : List ℕ) (k m : ℕ) (long : length f ≡ 6) (pre : is_weight f ≡ true) (ek : k ≡ number_of_first 16 (part f 0 2)) where
   kilos_small : k ≤ 99
-  kilos_small = omega (arith, few f 0 2 (omega arith), weight_small f pre.0 pre.1)
+  kilos_small = omega (arith, few f 0 2 (omega arith), weight_small f long pre)
 
   pub kilos_fit : Fits w64 (k * 1000)
   kilos_fit = record { fits = omega (arith, kilos_small) }
 
   pub grams_fit : m ≡ number_of_first 16 (part f 3 6) → Fits w64 (k * 1000 + m)
-  grams_fit em = record { fits = omega (arith, kilos_small, few f 3 6 (omega arith), weight_small f pre.0 pre.1) }
+  grams_fit em = record { fits = omega (arith, kilos_small, few f 3 6 (omega arith), weight_small f long pre) }
 
   pub grams_are : m ≡ number_of_first 16 (part f 3 6) → k * 1000 + m ≡ grams_in f
   grams_are em = rw (ek, em, few f 0 2 (omega arith), few f 3 6 (omega arith))
 
 -- ---- writing
-pub tens_space : (v : ℕ) → v < 10000 → 32 ≡ cond (ltb v 10000) 32 (48 + v / 10000)
-tens_space v h = rw (lt-ltb v 10000 h)
-
-pub tens_digit : (v : ℕ) → 10000 ≤ v → 48 + v / 10000 ≡ cond (ltb v 10000) 32 (48 + v / 10000)
-tens_digit v h = rw (le-ltb v 10000 h)
-
-pub weight_put : (s t : List ℕ) (v x : ℕ) → (length s ≡ 6) × (v < 100000) → t ≡ overlay s 3 (digits 3 v) → x ≡ cond (ltb v 10000) 32 (48 + v / 10000)
+pub weight_put : (s t : List ℕ) (v x : ℕ) → length s ≡ 6 → ltb v 100000 ≡ true → t ≡ overlay s 3 (digits 3 v) → x ≡ cond (ltb v 10000) 32 (48 + v / 10000)
     → set (set (set t 0 x) 1 (48 + v / 1000 % 10)) 2 46 ≡ weight_text v
 unfolding weight_text digits
-weight_put s t v x pre et ex = rw (et, ex, spelled 6 s pre.0) (go (ltb v 10000))
+weight_put s t v x long few et ex = rw (et, ex, spelled 6 s long) (go (ltb v 10000))
   where
     go : (b : Bool) → cond b 32 (48 + v / 10000) ∷ (48 + v / 1000 % 10) ∷ 46 ∷ ((([] ++ (48 + v / 10 / 10 % 10) ∷ []) ++ (48 + v / 10 % 10) ∷ []) ++ (48 + v % 10) ∷ [])
         ≡ cond b (32 ∷ ([] ++ (48 + v / 1000 % 10) ∷ [])) (([] ++ (48 + v / 1000 / 10 % 10) ∷ []) ++ (48 + v / 1000 % 10) ∷ []) ++ 46 ∷ ((([] ++ (48 + v / 10 / 10 % 10) ∷ []) ++ (48 + v / 10 % 10) ∷ []) ++ (48 + v % 10) ∷ [])
     go true = refl
-    go false = let e : v / 1000 / 10 % 10 ≡ v / 10000 = omega (arith, pre.1) in rw e
+    go false = let e : v / 1000 / 10 % 10 ≡ v / 10000 = omega (arith, ltb-true v 100000 few) in rw e
 
 drop_replicate : (k n x : ℕ) → drop k (replicate n x) ≡ replicate (n - k) x
 drop_replicate zero n x = rw (sub-zero n)
@@ -221,70 +165,14 @@ module _ (a b : List ℕ) (n : ℕ) (la : length a ≡ n) (lb : length b ≡ 2) 
   money_put_at : overlay (set (overlay (replicate 12 32) 0 a) n 46) (n + 1) b ≡ a ++ 46 ∷ (b ++ replicate (9 - n) 32)
   money_put_at = rw (crowns_put, dot_put) two_digits_put
 
-pub both_put : (s u w : List ℕ) (n v : ℕ) → u ≡ overlay s 0 (digits n (v / 100)) → w ≡ overlay (set u n 46) (n + 1) (digits 2 v)
-    → w ≡ overlay (set (overlay s 0 (digits n (v / 100))) n 46) (n + 1) (digits 2 v)
-both_put s u w n v eu ew = ew ∙ rw eu
-
-pub both_long : (s u w : List ℕ) (n : ℕ) → length u ≡ length s → length w ≡ length (set u n 46) → length w ≡ length s
-both_long s u w n eu ew = ew ∙ length-set u n 46 ∙ eu
-
 pub nine_at_most : (n : ℕ) → n < 1000000000 → decimal_places n ≤ 9
 nine_at_most n h = decimal_places_at_most 19 8 n h
 
-pub crowns_nine : (v n : ℕ) → v < 100000000000 → (n ≡ decimal_places (v / 100)) × ((1 ≤ n) × (n ≤ 20)) → n ≤ 9
-crowns_nine v n h en = rw en.0 (nine_at_most (v / 100) (omega arith))
+pub crowns_nine : (v n : ℕ) → ltb v 100000000000 ≡ true → (n ≡ decimal_places (v / 100)) × ((1 ≤ n) × (n ≤ 20)) → n ≤ 9
+crowns_nine v n h en = rw en.0 (nine_at_most (v / 100) (omega (arith, ltb-true v 100000000000 h)))
 
-module _ (s t w : List ℕ) (v n : ℕ) (pre : (length s ≡ 12) × (v < 100000000000)) (en : (n ≡ decimal_places (v / 100)) × ((1 ≤ n) × (n ≤ 20))) where
+module _ (s t w : List ℕ) (v n : ℕ) (long : length s ≡ 12) (few-crowns : ltb v 100000000000 ≡ true) (en : (n ≡ decimal_places (v / 100)) × ((1 ≤ n) × (n ≤ 20))) where
   pub money_put : t ≡ replicate (length s) 32 → w ≡ overlay (set (overlay t 0 (digits n (v / 100))) n 46) (n + 1) (digits 2 v) → w ≡ money_text v
   unfolding money_text
   money_put et ew =
-      rw (ew, et, pre.0, money_put_at (digits n (v / 100)) (digits 2 v) n (length_digits n (v / 100)) (length_digits 2 v) (crowns_nine v n pre.1 en), en.0)
-
--- ---- the writers
-module _ (width : ℕ) (has : Bool) (text s : List ℕ) where
-  pub write_size : (length s ≡ width → ⊥) → Written width has text s wrong_length s
-  write_size n = record { answers = rw (ne_eqb (length s) width n); bytes = rw (ne_eqb (length s) width n) }
-
-  pub write_none : length s ≡ width → has ≡ false → Written width has text s (answer 210 0) s
-  write_none e h = record { answers = rw (eq-eqb (length s) width e, h); bytes = rw (eq-eqb (length s) width e, h) }
-
-  pub write_done : (t : List ℕ) → length s ≡ width → has ≡ true → t ≡ text → Written width has text s accepted t
-  write_done t e h g = record { answers = rw (eq-eqb (length s) width e, h); bytes = rw (eq-eqb (length s) width e, h) g }
-
-module _ (s : List ℕ) (m : MoneyReading) (long : length s ≡ 12) where
-  pub money_blank : (t : List ℕ) → m ≡ Absent → t ≡ replicate (length s) 32 → MoneyWritten s m accepted t
-  unfolding has_money_text money_bytes
-  money_blank t e g = rw e (write_done 12 true (replicate 12 32) s t long refl (g ∙ rw long))
-
-  pub money_over : (h : Hellers) → m ≡ Value h → 100000000000 ≤ h.0 → MoneyWritten s m (answer 210 0) s
-  unfolding has_money_text money_bytes
-  money_over h e l = rw e (write_none 12 (ltb h.0 100000000000) (money_text h.0) s long (le-ltb h.0 100000000000 l))
-
-  pub money_text_lem : (t : List ℕ) (h : Hellers) → m ≡ Value h → h.0 < 100000000000 → t ≡ money_text h.0 → MoneyWritten s m accepted t
-  unfolding has_money_text money_bytes
-  money_text_lem t h e l g = rw e (write_done 12 (ltb h.0 100000000000) (money_text h.0) s t long (lt-ltb h.0 100000000000 l) g)
-
-  pub money_malformed : m ≡ Malformed → MoneyWritten s m (answer 210 0) s
-  unfolding has_money_text money_bytes
-  money_malformed e = rw e (write_none 12 false (replicate 12 32) s long refl)
-
-module _ (s : List ℕ) (m : WeightReading) (long : length s ≡ 6) where
-  pub weight_blank : (t : List ℕ) → m ≡ Absent → t ≡ replicate (length s) 32 → WeightWritten s m accepted t
-  unfolding has_weight_text weight_bytes
-  weight_blank t e g = rw e (write_done 6 true (replicate 6 32) s t long refl (g ∙ rw long))
-
-  pub weight_over : (h : Grams) → m ≡ Value h → 100000 ≤ h.0 → WeightWritten s m (answer 210 0) s
-  unfolding has_weight_text weight_bytes
-  weight_over h e l = rw e (write_none 6 (ltb h.0 100000) (weight_text h.0) s long (le-ltb h.0 100000 l))
-
-  pub weight_text_lem : (t : List ℕ) (h : Grams) → m ≡ Value h → h.0 < 100000 → t ≡ weight_text h.0 → WeightWritten s m accepted t
-  unfolding has_weight_text weight_bytes
-  weight_text_lem t h e l g = rw e (write_done 6 (ltb h.0 100000) (weight_text h.0) s t long (lt-ltb h.0 100000 l) g)
-
-  pub weight_malformed : m ≡ Malformed → WeightWritten s m (answer 210 0) s
-  unfolding has_weight_text weight_bytes
-  weight_malformed e = rw e (write_none 6 false (replicate 6 32) s long refl)
-
--- ---- what the rules ask
-pub money_zero : (r : MoneyReading) (h : Hellers) → r ≡ Value h → eqb h.0 0 ≡ absent_or_zero_money r
-money_zero r h e = rw e
+      rw (ew, et, long, money_put_at (digits n (v / 100)) (digits 2 v) n (length_digits n (v / 100)) (length_digits 2 v) (crowns_nine v n few-crowns en), en.0)

@@ -48,12 +48,6 @@ module _ (test : ℕ → Bool) where
   pub every_exactly : (s : List ℕ) → (every test s ≡ true) ↔ ((i : ℕ) → i < length s → test (get_or s i 0) ≡ true)
   every_exactly s = (λ h i l. every_at s i h l, at_every s)
 
-  passing_none : every test [] ≡ true
-  passing_none = refl
-
-  passing_on : (b : ℕ) (s : List ℕ) → test b ≡ true → every test s ≡ true → every test (b ∷ s) ≡ true
-  passing_on b s e h = rw (e, h)
-
   pub every_take : (n : ℕ) (s : List ℕ) → every test s ≡ true → every test (take n s) ≡ true
   every_take zero s h = refl
   every_take (suc n) [] h = refl

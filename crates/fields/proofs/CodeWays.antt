@@ -6,10 +6,9 @@ use mathlib.Core.Bool.{Bool, true, false, cond, not, ◌&&◌, and-eq-true_iff, 
 use mathlib.Core.List.{List, [], ◌∷◌, ◌++◌}
 use mathlib.Core.Logic.{◌⊎◌, inl, inr}
 use native.Mathlib.Omega.{arith}
-use borrow.Author.Tests.{eq-eqb, ne_eqb, eqb-true, eqb-false, lt-ltb, le-ltb, le-leb, leb-true, ltb-true, ltb-false, not-true, not-false}
+use borrow.Author.Tests.{eq-eqb, ne_eqb, eqb-true, eqb-false, lt-ltb, le-ltb, le-leb, leb-true, ltb-true}
 use Rattle.std.specs.Prelude.{Option, Some, None, option_map, position}
 use Rattle.std.specs.Option.{option_or}
-use Rattle.std.specs.Bool.{then_some}
 use lib.Dec.{eqb, leb, ltb, eqb→eq}
 use Rattle.text.specs.Bytes.{is_digit}
 use Rattle.text.specs.Lists.{same_bytes}
@@ -21,9 +20,6 @@ use Rattle.fields.specs.Codes.{Code, numbers_from, numbers, codes, number_for}
 use Rattle.fields.specs.Scans.{with_byte, key_from, key_of, number_at, unless_0, with_letters}
 
 -- ---- with_byte
-pub byte_on : (w b n : ℕ) → n ≡ b → 32 < b → b < 256 → w < 256 → w * 256 + n ≡ with_byte w b
-byte_on w b n e h l s = rw (e, lt-ltb w 256 s, le-leb 33 b (omega arith), lt-ltb b 256 l)
-
 pub byte_past : (w b : ℕ) → 256 ≤ w → 65536 ≡ with_byte w b
 byte_past w b h = rw (le-ltb w 256 h)
 
@@ -244,33 +240,8 @@ numbers_at w = numbers_from_lem w 1 99 (omega arith) refl (go (number_in w))
     go zero = inl refl
     go (suc n) = inr (omega arith)
 
-module _ (w : ℕ) where
-  abbrev digit : Bool
-  digit = leb 48 (w % 256) && leb (w % 256) 57
-
-  abbrev leading : Bool
-  leading = leb 49 (w / 256) && leb (w / 256) 57
-
-  at_numbers : unless_0 (number_at numbers w) ≡ unless_0 (number_in w)
-  at_numbers = ap unless_0 (numbers_at w)
-
-  pub number_none : not digit ≡ true → None ≡ unless_0 (number_at numbers w)
-  number_none h = sym (at_numbers ∙ rw (not-true digit h))
-
-  pub number_of_one : not digit ≡ false → w / 256 ≡ 0 → then_some (ltb 48 (w % 256)) (w % 256 - 48) ≡ unless_0 (number_at numbers w)
-  number_of_one h z = sym (at_numbers ∙ rw (not-false digit h, eq-eqb (w / 256) 0 z) (go (ltb 48 (w % 256)) refl))
-    where
-      go : (t : Bool) → ltb 48 (w % 256) ≡ t → unless_0 (w % 256 - 48) ≡ then_some t (w % 256 - 48)
-      go true e = rw (ne_eqb (w % 256 - 48) 0 (λ q. omega (arith, ltb-true 48 (w % 256) e)))
-      go false e = rw (eq-eqb (w % 256 - 48) 0 (omega (arith, ltb-false 48 (w % 256) e)))
-
-  pub number_of_two : not digit ≡ false → (w / 256 ≡ 0 → ⊥) → leading ≡ true → Some ((w / 256 - 48) * 10 + (w % 256 - 48)) ≡ unless_0 (number_at numbers w)
-  number_of_two h n l =
-      let some : eqb ((w / 256 - 48) * 10 + (w % 256 - 48)) 0 ≡ false = ne_eqb _ 0 (λ q. omega (arith, leb-true 49 (w / 256) ((and-eq-true_iff (leb 49 (w / 256)) (leb (w / 256) 57)).0 l).0)) in
-      sym (at_numbers ∙ rw (not-false digit h, ne_eqb (w / 256) 0 n, l, some))
-
-  pub number_not_led : not digit ≡ false → (w / 256 ≡ 0 → ⊥) → leading ≡ false → None ≡ unless_0 (number_at numbers w)
-  number_not_led h n l = sym (at_numbers ∙ rw (not-false digit h, ne_eqb (w / 256) 0 n, l))
+pub number_is : (w : ℕ) → unless_0 (number_at numbers w) ≡ unless_0 (number_in w)
+number_is w = ap unless_0 (numbers_at w)
 
 -- ---- lettered_in: the words of the codes with letters, as the code has them
 abbrev pub letter_words : List ℕ

@@ -177,13 +177,12 @@ money_exactly f v = (read_is_written f v, λ p. ap read_money p.1 ∙ money_writ
 
 -- ---- a field that is not malformed, read and written: the field again, blank where the amount is absent
 pub money_read_written : (f : List ℕ) → (read_money f ≡ Malformed → ⊥) → money_bytes (read_money f) ≡ f
-unfolding money_bytes
 money_read_written f good =
     read_written Absent Malformed 12 f (is_money f) (hellers (hellers_in f)) money_bytes refl (λ p. sym (good_is_written f p.long p.fine).1) good
 
 -- ---- and a reading that has a writing, written and read: the reading again, absent where it was absent
 pub money_reading_back : (m : MoneyReading) → has_money_text m ≡ true → read_money (money_bytes m) ≡ m
-unfolding has_money_text money_bytes framed
+unfolding framed
 money_reading_back Absent e = refl
 money_reading_back (Value v) e = money_written_read v.0 (ltb-true v.0 100000000000 e)
 money_reading_back Malformed e = cc

@@ -2,10 +2,10 @@
 -- Assumes nothing.
 use Prim.Native.Nat.{ℕ, suc, ◌+◌, ◌-◌, ◌*◌, ◌%◌, ◌^◌, ◌≤◌, ◌<◌}
 use mathlib.Core.Path.{◌≡◌, refl, sym, ap, ◌∙◌}
-use mathlib.Core.Bool.{Bool, true, false, cond, not, ◌&&◌, ◌||◌, and-eq-true_iff}
+use mathlib.Core.Bool.{Bool, true, false, cond, not, ◌&&◌, and-eq-true_iff}
 use mathlib.Core.List.{List, [], ◌∷◌, ◌++◌, map, append-nil}
 use native.Mathlib.Omega.{arith}
-use borrow.Author.Tests.{eq-eqb, ne_eqb, lt-ltb, le-ltb, le-leb, lt-leb, leb-true, leb-false, eqb-true, not-true}
+use borrow.Author.Tests.{ne_eqb, le-ltb, le-leb, lt-leb, leb-true, leb-false, eqb-true}
 use lib.Dec.{eqb, leb, ltb}
 use lib.ListN.{length, get_or, take, drop, length-drop}
 use lib.Seq.{take_all, append_snoc}
@@ -17,131 +17,43 @@ use Rattle.fields.specs.declared.services.Services.{Services}
 use Rattle.fields.specs.declared.reading.Reading.TheVariants.{Absent, Value, Malformed}
 use Rattle.fields.specs.Readings.{ServicesReading}
 use Rattle.fields.specs.Codes.{numbers_from, codes, number_for, is_code}
-use Rattle.fields.specs.Services.{in_front, words, numbers_in, bit, has_code, no_services, with_code, added, read_by, read_services, how_many, several_sizes}
+use Rattle.fields.specs.Services.{in_front, words, numbers_in, has_code, no_services, with_code, added, read_by, read_services, how_many}
 use Rattle.fields.specs.Frame.{framed, or_malformed, IsFramed}
+use Rattle.std.specs.List.{filter}
 use Rattle.std.specs.Prelude.{Option, Some, None, is_some, option_map}
-use Rattle.fields.specs.Scans.{with_byte, key_from, key_of, number_at, unless_0, codes_from, scan_of, added_one, behind_byte, finished}
+use Rattle.fields.specs.Scans.{with_byte, key_from, key_of, number_at, codes_from, scan_of, added_one, behind_byte, finished}
 use Rattle.fields.proofs.Bits.{with_fits, bit_past}
 use Rattle.fields.proofs.CodeWays.{key_stuck, code_by_key}
 
 -- ---- Services::has
-pub has_low : (s : Services) (c : ℕ) → c < 64 → bit c s.low ≡ has_code s c
+pub has_not : (s : Services) (c : ℕ) → s.bits < 2 ^ 128 → 128 ≤ c → ltb c 128 ≡ has_code s c
 unfolding has_code
-has_low s c h = rw (lt-ltb c 64 h)
-
-pub has_high : (s : Services) (c : ℕ) → 64 ≤ c → bit (c - 64) s.high ≡ has_code s c
-unfolding has_code
-has_high s c h = rw (le-ltb c 64 h)
-
-pub has_not : (s : Services) (c : ℕ) → s.high < 2 ^ 64 → 128 ≤ c → false ≡ has_code s c
-unfolding has_code
-has_not s c l h = rw (le-ltb c 64 (omega arith)) (sym (bit_past 64 (c - 64) s.high l (omega arith)))
+has_not s c l h = le-ltb c 128 h ∙ sym (bit_past 128 c s.bits l h)
 
 -- ---- Services::has_several_sizes
-abbrev one_more : Bool → ℕ → ℕ
-one_more t n = cond t (suc n) n
-
-pub sizes_are : (s : Services) (small medium large extra : Bool) → small ≡ has_code s 105 → medium ≡ has_code s 106 → large ≡ has_code s 107 → extra ≡ has_code s 108
-    → (small && medium || (small || medium) && (large || extra) || large && extra) ≡ several_sizes s
-unfolding several_sizes how_many
-sizes_are s small medium large extra e1 e2 e3 e4 = rw (e1, e2, e3, e4) (go (has_code s 105) (has_code s 106) (has_code s 107) (has_code s 108))
+pub filter_counts : (test : ℕ → Bool) (ns : List ℕ) → length (filter test ns) ≡ how_many test ns
+unfolding how_many
+filter_counts test [] = refl
+filter_counts test (n ∷ ns) = go (test n) (filter_counts test ns)
   where
-    go : (a b c d : Bool) → (a && b || (a || b) && (c || d) || c && d) ≡ ltb 1 (one_more a (one_more b (one_more c (one_more d 0))))
-    go true true true true = refl
-    go true true true false = refl
-    go true true false true = refl
-    go true true false false = refl
-    go true false true true = refl
-    go true false true false = refl
-    go true false false true = refl
-    go true false false false = refl
-    go false true true true = refl
-    go false true true false = refl
-    go false true false true = refl
-    go false true false false = refl
-    go false false true true = refl
-    go false false true false = refl
-    go false false false true = refl
-    go false false false false = refl
+    go : (t : Bool) → length (filter test ns) ≡ how_many test ns → length (cond t (n ∷ filter test ns) (filter test ns)) ≡ cond t (suc (how_many test ns)) (how_many test ns)
+    go true e = ap suc e
+    go false e = e
 
 -- ---- with_code
-pub code_range : (c : ℕ) → is_code c ≡ true → (1 ≤ c) × (c ≤ 127)
-code_range c h = let p = (and-eq-true_iff (leb 1 c) (leb c 127)).0 h in (leb-true 1 c p.0, leb-true c 127 p.1)
+pub code_below : (c : ℕ) → is_code c ≡ true → c < 128
+code_below c h = omega (arith, leb-true c 127 ((and-eq-true_iff (leb 1 c) (leb c 127)).0 h).1)
 
-pub low_fits : (s : Services) (c : ℕ) → s.low < 2 ^ 64 → c < 64 → has_code s c ≡ false → s.low + 2 ^ c < 2 ^ 64
-low_fits s c l h e = with_fits 64 c s.low l h (has_low s c h ∙ e)
+pub with_code_fits : (s : Services) (c : ℕ) → s.bits < 2 ^ 128 → is_code c ≡ true → has_code s c ≡ false → s.bits + 2 ^ c < 2 ^ 128
+unfolding has_code
+with_code_fits s c l i e = with_fits 128 c s.bits l (code_below c i) e
 
-pub high_fits : (s : Services) (c : ℕ) → s.high < 2 ^ 64 → is_code c ≡ true → 64 ≤ c → has_code s c ≡ false → s.high + 2 ^ (c - 64) < 2 ^ 64
-high_fits s c l i h e = with_fits 64 (c - 64) s.high l (omega (arith, code_range c i)) (has_high s c h ∙ e)
-
-power_fits : (k : ℕ) → k < 64 → 2 ^ k < 2 ^ 64
-power_fits k h = let e : 0 + 2 ^ k < 2 ^ 64 = with_fits 64 k 0 (omega arith) h (bit_past 0 k 0 (omega arith) (omega arith)) in omega arith
+power_fits : (k : ℕ) → k < 128 → 2 ^ k < 2 ^ 128
+power_fits k h = let e : 0 + 2 ^ k < 2 ^ 128 = with_fits 128 k 0 (omega arith) h (bit_past 0 k 0 (omega arith) (omega arith)) in omega arith
 
 -- what a shift of 1 gives
-pub shifted : (k : ℕ) → k < 64 → 1 * 2 ^ k % 2 ^ 64 ≡ 2 ^ k
+pub shifted : (k : ℕ) → k < 128 → 1 * 2 ^ k % 2 ^ 128 ≡ 2 ^ k
 shifted k h = let l = power_fits k h in omega arith
-
-pub with_low : (s : Services) (c : ℕ) → c < 64 → record { low = s.low + 2 ^ c; high = s.high } ≡ with_code s c
-unfolding with_code
-with_low s c h = rw (lt-ltb c 64 h)
-
-pub with_high : (s : Services) (c : ℕ) → 64 ≤ c → record { low = s.low; high = s.high + 2 ^ (c - 64) } ≡ with_code s c
-unfolding with_code
-with_high s c h = rw (le-ltb c 64 h)
-
--- ---- with_word
-module _ (s : Services) (n : ℕ) (o : Option ℕ) (eo : o ≡ unless_0 n) where
-  pub word_none : o ≡ None → None ≡ added_one s n
-  unfolding added_one
-  word_none e = go (eqb n 0) refl (sym e ∙ eo)
-    where
-      go : (t : Bool) → eqb n 0 ≡ t → None ≡ cond t None (Some n) → None ≡ cond (is_code n && not (has_code s n)) (Some (with_code s n)) None
-      go true z q = rw (eqb-true n 0 z)
-      go false z q = cc
-
-  module _ (c : ℕ) (ec : o ≡ Some c) where
-    same_code : c ≡ n
-    same_code = go (eqb n 0) (sym ec ∙ eo)
-      where
-        go : (t : Bool) → Some c ≡ cond t None (Some n) → c ≡ n
-        go true q = cc
-        go false q = cc
-
-    module _ (h : Bool) (eh : h ≡ has_code s c) where
-      pub can_add : (leb 1 c && leb c 127 && not h) ≡ true → (is_code c ≡ true) × (has_code s c ≡ false)
-      can_add g =
-          let p = (and-eq-true_iff (is_code c) (not h)).0 g in
-          (p.0, sym eh ∙ not-true h p.1)
-
-      pub adds : (r : Services) → (leb 1 c && leb c 127 && not h) ≡ true → r ≡ with_code s c → Some r ≡ added_one s n
-      unfolding added_one
-      adds r g e = rw (← same_code, ← eh, g, e)
-
-      pub adds_not : (leb 1 c && leb c 127 && not h) ≡ false → None ≡ added_one s n
-      unfolding added_one
-      adds_not g = rw (← same_code, ← eh, g)
-
--- ---- behind, finished
-module _ (s : Scan) (b : ℕ) (plus : b ≡ 43) (o : Option Services) (eo : o ≡ added_one s.services (number_at codes s.word)) where
-  pub plus_joins : (more : Services) → o ≡ Some more → Some (scan_of more 0) ≡ behind_byte s b
-  unfolding behind_byte
-  plus_joins more e = rw (eq-eqb b 43 plus, ← eo, e)
-
-  pub plus_fails : o ≡ None → None ≡ behind_byte s b
-  unfolding behind_byte
-  plus_fails e = rw (eq-eqb b 43 plus, ← eo, e)
-
-pub byte_joins : (s : Scan) (b w : ℕ) → (b ≡ 43 → ⊥) → w ≡ with_byte s.word b → Some (scan_of s.services w) ≡ behind_byte s b
-unfolding behind_byte
-byte_joins s b w n e = rw (ne_eqb b 43 n, e)
-
-pub finish_adds : (s : Scan) (rest : List ℕ) (b : Bool) (o : Option Services) → b ≡ is_blank rest → b ≡ true → o ≡ added_one s.services (number_at codes s.word) → o ≡ finished s rest
-unfolding finished
-finish_adds s rest b o e t g = rw (← e, t) g
-
-pub finish_not : (s : Scan) (rest : List ℕ) (b : Bool) → b ≡ is_blank rest → b ≡ false → None ≡ finished s rest
-unfolding finished
-finish_not s rest b e t = rw (← e, t)
 
 -- ---- the scan: what it gives for the bytes that are left
 unfoldable pub scanned : Scan → List ℕ → ServicesReading

@@ -6,8 +6,8 @@ use mathlib.Core.Bool.{Bool, true, false, cond, not, ◌&&◌, ◌||◌, and-eq-
 use mathlib.Core.List.{List, [], ◌∷◌, ◌++◌, map, append_assoc}
 use mathlib.Core.Logic.{◌↔◌}
 use native.Mathlib.Omega.{arith}
-use borrow.Author.Tests.{ltb-true, ltb-false, eqb-true, eqb-false, eq-eqb, ne_eqb, not-true}
-use lib.Dec.{eqb, ltb}
+use borrow.Author.Tests.{eqb-true, eqb-false, eq-eqb, ne_eqb, not-true}
+use lib.Dec.{eqb}
 use lib.ListN.{length, replicate, length-append, length-replicate, length-map}
 use Rattle.text.specs.Bytes.{every, is_blank}
 use Rattle.text.specs.Lists.{same_bytes}
@@ -19,7 +19,7 @@ use Rattle.fields.specs.declared.reading.Reading.TheVariants.{Absent, Value, Mal
 use Rattle.fields.specs.Readings.{ServicesReading}
 use Rattle.fields.specs.Texts.{contains}
 use Rattle.fields.specs.Codes.{Code, numbers_from, codes, number_for, text_for, has_number, has_text, is_code, in_word, is_word, told_apart}
-use Rattle.fields.specs.Services.{in_front, words, numbers_in, bit, has_code, no_services, with_code, added, read_by, malformed_services}
+use Rattle.fields.specs.Services.{in_front, words, numbers_in, has_code, no_services, with_code, added, read_by, malformed_services}
 use Rattle.fields.specs.ServiceTexts.{plus_joined, services_text, all_different, with_codes, services_of, Writes, GoodServices, blank, written}
 use Rattle.fields.proofs.Bits.{bit_with, bit_none}
 use Rattle.fields.proofs.FrameLaws.{same_value}
@@ -28,29 +28,12 @@ use Rattle.fields.proofs.ByteLaws.{spaces_blank, blank_exactly}
 -- ---- which codes a set has
 pub has_none : (k : ℕ) → has_code no_services k ≡ false
 unfolding has_code
-has_none k = go (ltb k 64)
-  where
-    go : (t : Bool) → cond t (bit k 0) (bit (k - 64) 0) ≡ false
-    go true = bit_none k
-    go false = bit_none (k - 64)
+has_none k = bit_none k
 
 -- one code more that was not there
 pub has_with : (s : Services) (c k : ℕ) → has_code s c ≡ false → has_code (with_code s c) k ≡ (eqb k c || has_code s k)
 unfolding has_code with_code
-has_with s c k new = go (ltb c 64) (ltb k 64) refl refl new
-  where
-    back : (t : Bool) → 64 ≤ c → 64 ≤ k → eqb k c ≡ t → eqb (k - 64) (c - 64) ≡ t
-    back true hc hk e = eq-eqb (k - 64) (c - 64) (ap (λ (n : ℕ). n - 64) (eqb-true k c e))
-    back false hc hk e = ne_eqb (k - 64) (c - 64) (λ q. eqb-false k c e (omega arith))
-
-    go : (t u : Bool) → ltb c 64 ≡ t → ltb k 64 ≡ u → has_code s c ≡ false → has_code (with_code s c) k ≡ (eqb k c || has_code s k)
-    go true true ec ek new = rw (ec, ek) (bit_with c k s.low (rw ec at new))
-    go true false ec ek new = rw (ec, ek, ne_eqb k c (λ e. omega (arith, ltb-true c 64 ec, ltb-false k 64 ek)))
-    go false true ec ek new = rw (ec, ek, ne_eqb k c (λ e. omega (arith, ltb-false c 64 ec, ltb-true k 64 ek)))
-    go false false ec ek new =
-        rw (ec, ek)
-        (bit_with (c - 64) (k - 64) s.high (rw ec at new)
-        ∙ ap (λ (t : Bool). t || bit (k - 64) s.high) (back (eqb k c) (ltb-false c 64 ec) (ltb-false k 64 ek) refl))
+has_with s c k new = bit_with c k s.bits new
 
 -- none of these codes is in a set
 abbrev apart : Services → List ℕ → Bool

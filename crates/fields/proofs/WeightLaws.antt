@@ -149,13 +149,12 @@ weight_exactly f v = (read_is_written f v, λ p. ap read_weight p.1 ∙ weight_w
 
 -- ---- a field that is not malformed, read and written: the field again, blank where the weight is absent
 pub weight_read_written : (f : List ℕ) → (read_weight f ≡ Malformed → ⊥) → weight_bytes (read_weight f) ≡ f
-unfolding weight_bytes
 weight_read_written f good =
     read_written Absent Malformed 6 f (is_weight f) (grams (grams_in f)) weight_bytes refl (λ p. sym (good_is_written f p.long p.fine).1) good
 
 -- ---- and a reading that has a writing, written and read: the reading again, absent where it was absent
 pub weight_reading_back : (m : WeightReading) → has_weight_text m ≡ true → read_weight (weight_bytes m) ≡ m
-unfolding has_weight_text weight_bytes framed
+unfolding framed
 weight_reading_back Absent e = refl
 weight_reading_back (Value v) e = weight_written_read v.0 (ltb-true v.0 100000 e)
 weight_reading_back Malformed e = cc

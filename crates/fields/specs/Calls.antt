@@ -5,11 +5,22 @@ use Rattle.text.specs.declared.Answer.{Answer}
 use Rattle.text.specs.Answers.{answer, accepted, wrong_length}
 use Rattle.layout.specs.Layout.{width_of}
 use Rattle.fields.specs.declared.amounts.Hellers.{Hellers}
+use Rattle.fields.specs.declared.reading.Reading.{Reading}
 use Rattle.fields.specs.declared.reading.Reading.TheVariants.{Absent, Value, Malformed}
 use Rattle.fields.specs.Readings.{WeightReading, MoneyReading}
 use Rattle.fields.specs.Amounts.{weight_text, money_text}
 
--- ---- the writing of a reading: a number that has one, or blanks
+-- ---- the writing of a reading: an amount that has one, or blanks; of any kind, by which amounts fit and what they write
+abbrev pub has_text : {A : Type 0} → (A → Bool) → Reading A → Bool
+has_text fits Absent = true
+has_text fits (Value v) = fits v
+has_text fits Malformed = false
+
+abbrev pub text_bytes : {A : Type 0} → ℕ → (A → List ℕ) → Reading A → List ℕ
+text_bytes width text Absent = replicate width 32
+text_bytes width text (Value v) = text v
+text_bytes width text Malformed = replicate width 32
+
 -- so many haléře, and so many grams, have a writing
 abbrev pub money_fits : ℕ → Bool
 money_fits v = ltb v 100000000000
@@ -17,25 +28,17 @@ money_fits v = ltb v 100000000000
 abbrev pub weight_fits : ℕ → Bool
 weight_fits v = ltb v 100000
 
-unfoldable pub has_money_text : MoneyReading → Bool
-has_money_text Absent = true
-has_money_text (Value h) = money_fits h.0
-has_money_text Malformed = false
+abbrev pub has_money_text : MoneyReading → Bool
+has_money_text = has_text (λ h. money_fits h.0)
 
-unfoldable pub money_bytes : MoneyReading → List ℕ
-money_bytes Absent = replicate (width_of 16) 32
-money_bytes (Value h) = money_text h.0
-money_bytes Malformed = replicate (width_of 16) 32
+abbrev pub money_bytes : MoneyReading → List ℕ
+money_bytes = text_bytes (width_of 16) (λ h. money_text h.0)
 
-unfoldable pub has_weight_text : WeightReading → Bool
-has_weight_text Absent = true
-has_weight_text (Value g) = weight_fits g.0
-has_weight_text Malformed = false
+abbrev pub has_weight_text : WeightReading → Bool
+has_weight_text = has_text (λ g. weight_fits g.0)
 
-unfoldable pub weight_bytes : WeightReading → List ℕ
-weight_bytes Absent = replicate (width_of 15) 32
-weight_bytes (Value g) = weight_text g.0
-weight_bytes Malformed = replicate (width_of 15) 32
+abbrev pub weight_bytes : WeightReading → List ℕ
+weight_bytes = text_bytes (width_of 15) (λ g. weight_text g.0)
 
 -- 236 if the part hasn't the field's width, then 210 if the number has no writing there, both place 0 and the part unchanged
 pub record Written (width : ℕ) (has : Bool) (text before : List ℕ) (r : Answer) (after : List ℕ) : Type 0 where

@@ -43,7 +43,7 @@ is_grams v Malformed = false
 -- the set of just these codes
 unfoldable pub is_set : Services → ServicesReading → Bool
 is_set t Absent = false
-is_set t (Value s) = eqb s.low t.low && eqb s.high t.high
+is_set t (Value s) = eqb s.bits t.bits
 is_set t Malformed = false
 
 unfoldable pub is_date : ℕ → DateReading → Bool

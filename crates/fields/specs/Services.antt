@@ -1,6 +1,6 @@
 -- Field 18: services, blank, or codes joined by "+", left-aligned, no code twice. `Codes` has the table of them.
 -- Assumes nothing.
-use Rattle.std.specs.Prelude.{ℕ, suc, ◌+◌, ◌-◌, ◌/◌, ◌%◌, ◌^◌, Bool, cond, not, ◌&&◌, List, [], ◌∷◌, map, length, eqb, ltb, unwrap_or}
+use Rattle.std.specs.Prelude.{ℕ, suc, ◌+◌, ◌/◌, ◌%◌, ◌^◌, Bool, cond, not, ◌&&◌, List, [], ◌∷◌, map, length, eqb, ltb, unwrap_or}
 use Rattle.text.specs.Bytes.{is_blank}
 use Rattle.layout.specs.Layout.{width_of}
 use Rattle.fields.specs.declared.services.Services.{Services}
@@ -21,19 +21,18 @@ words (b ∷ bs) = cond (is_blank (b ∷ bs)) ([] ∷ []) (cond (eqb b 43) ([] �
 abbrev pub numbers_in : List Code → List ℕ → List ℕ
 numbers_in table f = map (number_for table) (words f)
 
--- ---- a set of codes as data: number c is bit c of `low` below 64, else bit c - 64 of `high`
+-- ---- a set of codes as data: number c is bit c
 abbrev pub bit : ℕ → ℕ → Bool
 bit k n = eqb (n / 2 ^ k % 2) 1
 
 unfoldable pub has_code : Services → ℕ → Bool
-has_code s c = cond (ltb c 64) (bit c s.low) (bit (c - 64) s.high)
+has_code s c = bit c s.bits
 
 abbrev pub no_services : Services
-no_services = record { low = 0; high = 0 }
+no_services = record { bits = 0 }
 
 unfoldable pub with_code : Services → ℕ → Services
-with_code s c =
-    cond (ltb c 64) (record { low = s.low + 2 ^ c; high = s.high }) (record { low = s.low; high = s.high + 2 ^ (c - 64) })
+with_code s c = record { bits = s.bits + 2 ^ c }
 
 -- codes added to a set one by one: malformed at the first that is no code, or is there already
 unfoldable pub added : Services → List ℕ → ServicesReading

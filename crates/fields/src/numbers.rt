@@ -16,7 +16,7 @@ const COUNT_WIDTH: usize = WIDTHS[23 - 1];
 pub type NumberReading = Reading<u64>;
 
 impl Reading<u64> {
-    // The number that was read; 0 where there is none.
+    // The number that was read; 0 where there is none, as the rules say it (`number_in`): so callers need no default of their own.
     pub fn number(self) -> u64
         ensures { Gives (number_in self) result }
     {
@@ -42,7 +42,7 @@ pub fn read_telephone(f: &[u8]) -> NumberReading
     ensures { Gives (read_telephone f.now) result }
 {
     framed(f, TELEPHONE_WIDTH, |f| {
-        let good = (f[0] == b'+') & text::all_digits(&f[1..13]) & text::blank(&f[13..20]);
+        let good = f[0] == b'+' && text::all_digits(&f[1..13]) && text::blank(&f[13..20]);
         good.then(|| text::number(&f[1..13]))
     })
 }
@@ -53,7 +53,7 @@ pub fn read_count(f: &[u8]) -> NumberReading
 {
     framed(f, COUNT_WIDTH, |f| {
         let n = text::number(f);
-        let good = text::all_digits(f) & (0 < n);
+        let good = text::all_digits(f) && 0 < n;
         good.then_some(n)
     })
 }

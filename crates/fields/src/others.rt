@@ -37,13 +37,14 @@ pub fn read_country(f: &[u8]) -> CountryReading
     framed(f, COUNTRY_WIDTH, |f| {
         let country = Country(f[0], f[1]);
         let good = text::is_capital(f[0])
-            & text::is_capital(f[1])
-            & (country != Country(b'C', b'Z'));
+            && text::is_capital(f[1])
+            && country != Country(b'C', b'Z');
         good.then_some(country)
     })
 }
 
-// Reads a field of so many bytes that has to be blank.
+// Reads a field of so many bytes that has to be blank. Outside the frame of the other readers, since blank is the good value here and not absent.
+#[tactic(auto, unfolding(crate::specs::Frame::framed))]
 pub fn read_empty(f: &[u8], width: usize) -> EmptyReading
     ensures { Gives (read_empty width f.now) result }
 {
@@ -57,6 +58,8 @@ pub fn read_empty(f: &[u8], width: usize) -> EmptyReading
     }
 }
 
+// Outside the frame of the other readers, since a status is never absent: blank is live.
+#[tactic(auto, unfolding(crate::specs::Frame::framed))]
 pub fn read_status(f: &[u8]) -> StatusReading
     ensures { Gives (read_status f.now) result }
 {
@@ -66,7 +69,7 @@ pub fn read_status(f: &[u8]) -> StatusReading
     if text::blank(f) {
         return StatusReading::Live;
     }
-    let cancelled = (f[0] == b'0') & (f[1] == b' ');
+    let cancelled = f[0] == b'0' && f[1] == b' ';
     if cancelled {
         StatusReading::Cancelled
     } else {

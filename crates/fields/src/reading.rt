@@ -1,4 +1,4 @@
-// What a field's reading is: absent, a value as data, or malformed.
+// What a field's reading is: absent, a value as data, or malformed. An enum, as paper 01 has it.
 ghost use Rattle.std.specs.Prelude.{◌≡◌, length};
 ghost use Rattle.std.specs.Fn.{FnOnceReturnsAt, FnOnceTakesAt};
 ghost use Rattle.text.specs.Promises.{Gives};

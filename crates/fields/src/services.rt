@@ -1,5 +1,6 @@
 // 18: services.
 ghost use Rattle.std.specs.Prelude.{◌≡◌, true, false, ◌<◌, eqb, length, position, IfSome};
+ghost use Rattle.std.specs.List.{filter};
 ghost use Rattle.text.specs.Promises.{Gives};
 ghost use Rattle.fields.specs.Codes.{numbers, codes, is_code};
 ghost use Rattle.fields.specs.Services.{numbers_in, has_code, no_services, with_code, added, read_services, services_in, several_sizes};
@@ -16,17 +17,11 @@ const SERVICES_WIDTH: usize = WIDTHS[18 - 1];
 // Each code has a number: 1 to 99 their own, and those with letters one after the other from here on.
 const FIRST_LETTERED: u64 = 100;
 
-// Of these the sizes, which are asked for.
-const SIZE_S: u64 = 105;
-
-const SIZE_M: u64 = 106;
-
-const SIZE_L: u64 = 107;
-
-const SIZE_XL: u64 = 108;
+// Of these the sizes, S, M, L and XL, which are asked for.
+const SIZES: [u64; 4] = [105, 106, 107, 108];
 
 // The texts of those with letters, each as a word of one byte or two: the next code is a row more. A word is one number, so that it is compared
-// at once.
+// at once. `as`, since a constant calls no `from`.
 const LETTERED: [u64; 9] = [
     b'1' as u64 * 256 + b'A' as u64,
     b'1' as u64 * 256 + b'B' as u64,
@@ -54,24 +49,15 @@ fn with_byte(word: u64, b: u8) -> u64
     }
 }
 
-// The number that one digit or two write with no leading zero.
+// The number that one digit or two, which are 48 to 57 as bytes, write with no leading zero.
+#[tactic(auto, using(crate::proofs::CodeWays::number_is))]
 fn number_in(word: u64) -> Option<u64>
     ensures { result ≡ unless_0 (number_at numbers word) }
 {
-    let tens = word / 256;
-    let ones = word % 256;
-    let digit = (48 <= ones) & (ones <= 57);
-    if !digit {
-        return None;
-    }
-    if tens == 0 {
-        return (48 < ones).then_some(ones - 48);
-    }
-    let leading = (49 <= tens) & (tens <= 57);
-    if leading {
-        Some((tens - 48) * 10 + (ones - 48))
-    } else {
-        None
+    match (word / 256, word % 256) {
+        (0, ones @ 49..=57) => Some(ones - 48),
+        (tens @ 49..=57, ones @ 48..=57) => Some((tens - 48) * 10 + (ones - 48)),
+        _ => None,
     }
 }
 
@@ -100,21 +86,22 @@ fn code_in(word: u64) -> Option<u64>
 
 // ---- sets of codes
 
-// The codes that are present, by their numbers: c is bit c of `low` below 64, else bit c - 64 of `high`.
+// The codes that are present, by their numbers: code c is bit c.
 #[derive(Clone, Copy, Debug, PartialEq, Eq)]
 pub struct Services {
-    pub low: u64,
-    pub high: u64,
+    pub bits: u128,
 }
+
+const NO_SERVICES: Services = Services { bits: 0 };
 
 pub type ServicesReading = Reading<Services>;
 
 impl Reading<Services> {
-    // The services that were read; none where the field is blank.
+    // The services that were read; none where the field is blank, as the rules say it (`services_in`): so callers need no default of their own.
     pub fn services(self) -> Services
         ensures { Gives (services_in self) result }
     {
-        self.value().unwrap_or(Services { low: 0, high: 0 })
+        self.value().unwrap_or(NO_SERVICES)
     }
 }
 
@@ -122,24 +109,20 @@ impl Services {
     pub fn has(self, code: u64) -> bool
         ensures { Gives (has_code self code) result }
     {
-        if code < 64 {
-            return (self.low >> code) % 2 == 1;
-        }
-        if code < 128 {
-            let k = code - 64;
-            return (self.high >> k) % 2 == 1;
-        }
-        false
+        code < 128 && (self.bits >> code) % 2 == 1
+    }
+
+    // How many of some codes are present.
+    fn how_many(self, codes: &[u64]) -> usize
+        ensures { result ≡ length (filter (has_code self) codes.now) }
+    {
+        codes.iter().filter(|code| self.has(**code)).count()
     }
 
     pub fn has_several_sizes(self) -> bool
         ensures { Gives (several_sizes self) result }
     {
-        let small = self.has(SIZE_S);
-        let medium = self.has(SIZE_M);
-        let large = self.has(SIZE_L);
-        let extra = self.has(SIZE_XL);
-        small & medium | (small | medium) & (large | extra) | large & extra
+        self.how_many(&SIZES) > 1
     }
 }
 
@@ -147,25 +130,18 @@ fn with_code(s: Services, code: u64) -> Services
     requires { (is_code code ≡ true) × (has_code s code ≡ false) }
     ensures { result ≡ with_code s code }
 {
-    if code < 64 {
-        return Services {
-            low: s.low + (1 << code),
-            high: s.high,
-        };
-    }
-    let k = code - 64;
     Services {
-        low: s.low,
-        high: s.high + (1 << k),
+        bits: s.bits + (1 << code),
     }
 }
 
 // The set with the code of a word more; none where the word is no code, or the code is there already.
+#[tactic(auto, unfolding(crate::specs::Scans::added_one))]
 fn with_word(s: Services, word: u64) -> Option<Services>
     ensures { result ≡ added_one s (number_at codes word) }
 {
     let code = code_in(word)?;
-    let good = (1 <= code) & (code <= 127) & !s.has(code);
+    let good = 1 <= code && code <= 127 && !s.has(code);
     if good { Some(with_code(s, code)) } else { None }
 }
 
@@ -179,6 +155,7 @@ pub struct Scan {
 }
 
 // The scan behind a byte of a word, or a "+"; none where the code before it was no good.
+#[tactic(auto, unfolding(crate::specs::Scans::behind_byte))]
 fn behind(scan: Scan, b: u8) -> Option<Scan>
     requires { 32 < b }
     ensures { result ≡ behind_byte scan b }
@@ -194,6 +171,7 @@ fn behind(scan: Scan, b: u8) -> Option<Scan>
 }
 
 // What a scan gives where the words end: nothing but spaces may follow.
+#[tactic(auto, unfolding(crate::specs::Scans::finished))]
 fn finished(scan: Scan, rest: &[u8]) -> Option<Services>
     ensures { result ≡ finished scan rest.now }
 {
@@ -207,7 +185,7 @@ fn scan_services(f: &[u8]) -> Option<Services>
     ensures { or_malformed result ≡ added no_services (numbers_in codes f.now) }
 {
     let mut scan = Scan {
-        services: Services { low: 0, high: 0 },
+        services: NO_SERVICES,
         word: 0,
     };
     for (i, b) in f.iter().enumerate() {

@@ -70,7 +70,8 @@ fn filled(f: &[u8]) -> usize
     front.len()
 }
 
-// Reads a text field of so many bytes.
+// Reads a text field of so many bytes. Outside the frame of the other readers, since the search for its end tells blank as well, and would be one
+// look more.
 pub fn read_text(f: &[u8], width: usize) -> TextReading
     ensures { Gives (read_text width f.now) result }
 {
@@ -132,9 +133,7 @@ fn mail_end(f: &[u8]) -> Option<usize>
     if f[at] != b'@' {
         return None;
     }
-    let Some(host) = host_length(&f[at + 1..]) else {
-        return None;
-    };
+    let host = host_length(&f[at + 1..])?;
     Some(at + 1 + host)
 }
 

@@ -107,6 +107,7 @@ fn identifier_out(
     }
 }
 
+// What C is given of an identifier that is refused: nothing but zeros, written out so that it can be read here.
 const NO_PARTS: IdentifierParts = IdentifierParts {
     first: 0,
     second: 0,
@@ -236,10 +237,7 @@ fn told(answer: Result<Totals, Break>, out: &mut [u64; 7]) -> u32
     ensures { Answered (file_answered answer) result out.new }
 {
     *out = posting::numbers_of(answer);
-    match answer {
-        Ok(_) => 0,
-        Err(offence) => Answer::from(offence.refusal).code,
-    }
+    Answer::from(answer.map_err(|offence| offence.refusal)).code
 }
 
 #[unsafe(no_mangle)]
@@ -329,6 +327,7 @@ pub extern "C" fn fuganorezi_batch_open(file: &mut [u8], journal: &mut [u8]) -> 
     outcome_of(batch::open(file, journal), Counts::default())
 }
 
+// C's interface: a function for each call.
 #[unsafe(no_mangle)]
 pub extern "C" fn fuganorezi_batch_add(
     file: &mut [u8],

@@ -1,6 +1,6 @@
 -- Facts of the ways that words of eight were compared in, digits summed and tens looked up. No proof uses them now; the notes of the orders name them.
 -- Assumes nothing.
-use Prim.Native.Nat.{ℕ, zero, suc, ◌+◌, ◌-◌, ◌*◌, ◌^◌, ◌≤◌, ◌<◌}
+use Prim.Native.Nat.{ℕ, ◌+◌, ◌-◌, ◌*◌, ◌^◌, ◌≤◌, ◌<◌}
 use mathlib.Core.Path.{◌≡◌, refl, sym, ap, ap₂, ◌∙◌}
 use mathlib.Core.Bool.{Bool, true, false, not}
 use mathlib.Core.List.{List, [], ◌∷◌, ◌++◌}
@@ -12,10 +12,9 @@ use mir.Val.{Fits}
 use lib.Dec.{eqb, ltb, eqb→eq, ltb→lt}
 use lib.ListN.{length, get_or, take, drop, length-drop, take-append-drop}
 use lib.Seq.{drop-drop, take_all, drop-length}
-use Rattle.text.specs.Bytes.{is_capital}
 use Rattle.text.specs.Lists.{part, same_bytes}
 use Rattle.text.specs.Numbers.{number_of_first}
-use Rattle.text.specs.Words.{low_first, word_of}
+use Rattle.text.specs.Words.{word_of}
 use Rattle.text.proofs.Lists.{ended, same_exactly}
 use Rattle.text.proofs.Numbers.{few}
 use Rattle.text.proofs.Ranges.{below}

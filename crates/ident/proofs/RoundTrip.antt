@@ -13,7 +13,7 @@ use borrow.Rule.Slice.PartMut.{mid_len}
 use lib.Dec.{leb→le, leb, ltb, eqb}
 use lib.ListN.{length, get_or}
 use lib.Seq.{take-add, drop-drop, take_at, drop_at}
-use Rattle.text.specs.Bytes.{is_digit, every, all_digits}
+use Rattle.text.specs.Bytes.{is_digit, all_digits}
 use Rattle.text.specs.Lists.{part}
 use Rattle.text.specs.Numbers.{digits}
 use Rattle.text.proofs.Lists.{spelled}

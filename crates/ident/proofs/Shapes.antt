@@ -18,7 +18,7 @@ shape c p = record { consignor = c; posting = p }
 abbrev pub Looked : Shape → ℕ → Type 0
 Looked s l = (s ≡ shape_of l) × (s.consignor ≤ 5) × (s.consignor + s.posting ≤ 9)
 
--- ---- each row, with those above it passed over
+-- ---- each row, with those above it passed over; no proof uses these, the check finds them, but a document has named them
 module _ (l : ℕ) where
   pub row_FEP : (eqb l 70 || eqb l 69 || eqb l 80) ≡ true → Looked (shape 2 7) l
   unfolding shape_of

@@ -11,7 +11,7 @@ use borrow.Author.Tests.{eqb-true, eq-eqb, ne_eqb}
 use lib.Dec.{T, eqb, eqb→eq}
 use lib.ListN.{length, get_or, drop, set, length-take, length-drop}
 use lib.Seq.{get_or-take, get_or-drop, get_or-set_same, get_or-set_other, take-set-lt, take-set-le, drop-set-add}
-use Rattle.text.specs.Bytes.{is_digit, every, all_digits}
+use Rattle.text.specs.Bytes.{is_digit, all_digits}
 use Rattle.text.specs.Lists.{part}
 use Rattle.text.proofs.Ranges.{all_from, below, within, either, is_true}
 use Rattle.text.proofs.Numbers.{digit_bounds}

@@ -2,7 +2,7 @@
 ghost use Rattle.text.specs.Promises.{Gives};
 ghost use Rattle.ident.specs.Consignor.{another};
 
-// Whose consignments they are: his type, the last byte of his identifiers, and his number. CZ names none.
+// Whose consignments they are: his type, the last byte of his identifiers as the post writes it, and his number. CZ names none.
 #[derive(Clone, Copy, Debug, PartialEq, Eq)]
 pub struct Consignor {
     pub kind: u8,

@@ -6,7 +6,7 @@ use mathlib.Core.Bool.{Bool, true, false, cond, ◌&&◌, and-false}
 use mathlib.Core.List.{List}
 use native.Mathlib.Nat.{sub-zero}
 use native.Mathlib.Omega.{arith}
-use borrow.Author.Tests.{eq-eqb, ne_eqb, le-ltb, le-leb, lt-leb}
+use borrow.Author.Tests.{eq-eqb, ne_eqb, le-leb, lt-leb}
 use lib.Dec.{leb, ltb}
 use lib.ListN.{length, get_or, set, take, drop, length-drop}
 use lib.Seq.{set_out, take_all}
@@ -125,9 +125,6 @@ module _ (table file : List ℕ) (from : ℕ) (key own : List ℕ) (same : own �
   find_there s t es et = et ∙ rw (← same, ← es.0)
 
 -- ---- put
-pub note_none : (table : List ℕ) (s n : ℕ) → 65535 ≤ n → table ≡ cond (ltb n 65535) (set table s (n + 1)) table
-note_none table s n h = rw (le-ltb n 65535 h)
-
 pub put_keyless : (table file : List ℕ) (from n : ℕ) → has_key file from n ≡ false → Put table file from n None table
 unfolding noting
 put_keyless table file from n lacks =

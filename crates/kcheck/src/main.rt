@@ -10,8 +10,8 @@ use std::rt::Files;
 use text::Refusal;
 
 // The line for what was read. There is room for every table and every line, so it is always the whole one.
-// The same four lines are in `kclosing`, by its report: a public function that takes a report would have to require that it may be called, and
-// the functions that print have no contract to state, which each public function has.
+// The same lines are in `kclosing`, by its report. A public function for both would take the report as a closure and so have a `requires`, which none has;
+// and of what is printed no contract can say anything.
 fn put_line(text: &[u8], input: &[u8], table: &mut [u32], line: &mut [u8]) -> Result<usize, Refusal>
     requires { (16000 ≤ length table.old) × (longest_line ≤ length line.old) }
     ensures { WholeLine (under_text text.now (λ psc. input_answer psc input.now)) result line.new }

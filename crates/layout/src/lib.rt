@@ -12,7 +12,7 @@ pub const WIDTHS: [usize; 26] = [
     13, 8, 8, 30, 5, 2, 40, 40, 40, 6, 6, 20, 50, 12, 6, 12, 12, 30, 2, 10, 10, 13, 2, 2, 10, 10,
 ];
 
-// Where each field starts: behind the widths before it.
+// Where each field starts: behind the widths before it. A table of its own, so that no call adds up.
 const STARTS: [usize; 26] = [
     0, 13, 21, 29, 59, 64, 66, 106, 146, 186, 192, 198, 218, 268, 280, 286, 298, 310, 340, 342,
     352, 362, 375, 377, 379, 389,
@@ -24,13 +24,14 @@ fn is_field(n: usize) -> bool
     (1..=26).contains(&n)
 }
 
-// How wide field n is; 0 where there is no such field.
+// How wide field n is; 0 where there is no such field: `field` gives no byte of it either.
 pub fn width(n: usize) -> usize
     ensures { Width n result }
 {
     if is_field(n) { WIDTHS[n - 1] } else { 0 }
 }
 
+// Field n of a record whose length has been tested: a part of the caller's slice, and of no array made of it.
 fn cut_out(rec: &[u8], n: usize) -> &[u8]
     requires { (length rec.now ≡ 399) × (1 ≤ n) × (n ≤ 26) }
     ensures { result.now ≡ cut widths rec.now (n - 1) }

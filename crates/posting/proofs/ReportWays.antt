@@ -13,7 +13,7 @@ use native.Mathlib.Omega.{arith}
 use borrow.Author.Tests.{lt-ltb, le-ltb, le-leb, not-true, not-false}
 use borrow.Rule.Slice.PartMut.{put_mid}
 use lib.Dec.{leb}
-use lib.ListN.{length, get_or, take, drop, set, length-append, length-take, length-drop, take-append-drop}
+use lib.ListN.{length, get_or, take, drop, set, length-append, length-drop, take-append-drop}
 use lib.Seq.{take_at, take-append_seam, drop_at, set_split, drop-drop, length-take-le}
 use Rattle.text.specs.declared.Refusal.{Refusal}
 use Rattle.text.specs.Lists.{overlay}
@@ -125,10 +125,6 @@ module _ (ns : List ℕ) (i a : ℕ) (o : List ℕ) (h : i < length ns) (room : 
 pub put_done : (ns o : List ℕ) (i a : ℕ) (r : List ℕ) → length ns ≤ i → overlay o a (line (drop i ns)) ≡ r → o ≡ r
 put_done ns o i a r h e = sym (overlay_none o a) ∙ (rw (line_ended ns i h) at e)
 
--- ---- the line for another answer that is the same
-pub report_of_lem : (a a' : FileAnswer) (s s' : List ℕ) (r : Result ℕ Refusal) → a' ≡ a → Report a' s r s' → Report a s r s'
-report_of_lem a a' s s' r e p = rw e at p
-
 -- ---- the line fits
 line_at_most : (ns : List ℕ) → length (line ns) ≤ 21 * length ns
 unfolding line
@@ -151,9 +147,6 @@ line_counts a t r n w e = search (rules, w.answers, e)
 
 pub line_front : (a : FileAnswer) (t : List ℕ) (r : Result ℕ Refusal) (n : ℕ) → WholeLine a r t → r ≡ Ok n → take n t ≡ report_of a
 line_front a t r n w e = rw (line_counts a t r n w e) w.bytes
-
-pub line_within : (a : FileAnswer) (t : List ℕ) (r : Result ℕ Refusal) (n : ℕ) → WholeLine a r t → r ≡ Ok n → n ≤ length t
-line_within a t r n w e = omega (arith, line_counts a t r n w e, ap length w.bytes, length-take (length (report_of a)) t)
 
 -- ---- the line under a table that is given as text, of any answer by a table: a program reads it into a lent one of enough places
 module _ (answer : List ℕ → FileAnswer) (text before table : List ℕ) (read : Result ℕ Refusal) (told : TableRead text before read table) (line line' : List ℕ) (r : Result ℕ Refusal)

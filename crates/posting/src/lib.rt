@@ -28,7 +28,7 @@ pub struct Totals {
     pub price: Hellers,
 }
 
-// The first break: why, and the number of the record, counted from 1; 0 where the file as a whole or the table is refused.
+// The first break: why, and the number of the record, counted from 1; 0 where the file as a whole or the table is refused, as the line has it.
 #[derive(Clone, Copy, Debug, PartialEq, Eq)]
 pub struct Break {
     pub refusal: Refusal,
@@ -51,7 +51,7 @@ fn ends_right(line: &[u8; 401]) -> bool
 }
 
 // What record i breaks, whose line it is, the line end first; where it breaks nothing, the first consignor that is named up to it. The consignor seen is the
-// first that is named before it.
+// first that is named before it. The file stands beside the line, since the index notes a record by its number in the file.
 fn line_answer(
     file: &[u8],
     i: usize,

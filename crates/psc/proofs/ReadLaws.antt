@@ -1,7 +1,7 @@
 -- What a caller has of `read` who lent a table of as many places as any text has lines: refused means text that is otherwise written, accepted that the table
 -- of the text stands at the front.
 -- Assumes nothing.
-use Rattle.std.proofs.Common.{arith, ◌≡◌, refl, sym, ap, ◌∙◌, ℕ, ◌+◌, ◌≤◌, Bool, true, false, List, Result, Ok, Err, leb, length, take, drop, length-take}
+use Rattle.std.proofs.Common.{arith, ◌≡◌, refl, sym, ap, ◌∙◌, ℕ, ◌+◌, ◌≤◌, Bool, true, false, List, Result, Ok, Err, leb, length, take, drop}
 use Rattle.std.proofs.Math.Seq.{take-append_seam}
 use borrow.Author.Tests.{le-leb}
 use Rattle.text.specs.declared.Refusal.{Refusal}
@@ -39,10 +39,3 @@ module _ (text before : List ℕ) (r : Result ℕ Refusal) (after : List ℕ) (r
     read_front =
         let put = rw (read_right, lines_fit read_right) at read.entries in
         rw (entries_are, put) (take-append_seam (table_in text) (drop (0 + length (table_in text)) before))
-
-    -- so many entries can be taken off the front
-    pub read_long : n ≡ length (take n after)
-    read_long = entries_are ∙ sym (ap length read_front)
-
-    pub read_within : n ≤ length after
-    read_within = omega (arith, read_long, length-take n after)

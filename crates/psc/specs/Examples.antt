@@ -1,7 +1,6 @@
 -- Tables that are right and wrong, numbers looked up, and text: one list of examples under the one claim `shown`.
 -- Assumes nothing.
 use Rattle.std.specs.Prelude.{ℕ, Bool, true, not, List, [], ◌∷◌, ◌++◌, ◌≡◌, refl}
-use Rattle.text.specs.Bytes.{every}
 use Rattle.text.specs.Lists.{same_bytes}
 use Rattle.text.specs.Numbers.{number_after, digits}
 use Rattle.text.specs.Texts.{bytes, all_hold}

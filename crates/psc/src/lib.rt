@@ -36,7 +36,7 @@ pub fn right(table: &[u32]) -> bool
         rises = rises & (pair[0] < pair[1]);
     }
     // Of entries that rise the last is the highest.
-    rises & (*highest <= 99_999)
+    rises && *highest <= 99_999
 }
 
 // One of two values, with no branch that the processor would have to guess.
@@ -47,7 +47,7 @@ fn choose(first: bool, a: usize, b: usize) -> usize
 }
 
 // Whether a number is in a right table, told by at most 14 looks. There is no way out at the entry that is looked for: what is found stays found.
-// Not the library's binary_search, which says nothing of a table that does not rise: `found` says it of any table.
+// Not the library's binary_search: of a table that does not rise it says only that an entry it finds is there; `found` says of any table whether one is found.
 pub fn find(table: &[u32], n: u64) -> bool
     ensures { Gives (found table.now n) result }
 {
@@ -104,7 +104,7 @@ fn right_text(text: &[u8]) -> bool
     true
 }
 
-// Puts the numbers of right text at the front of a table.
+// Puts the numbers of right text at the front of a table. By number of place: behind iter_mut nothing would be known of the entries.
 fn fill(text: &[u8], table: &mut [u32])
     requires { (right_text text.now ≡ true) × (lines_in text.now ≤ length table.old) }
     ensures { table.new ≡ overlay table.old 0 (table_in text.now) }

@@ -47,6 +47,14 @@ pub unplaced : (a : Address) (x h n : Bool) → x ≡ absent_text a.name → h �
     → answer 27 5 ≡ verdict (address_rule a ∷ [])
 unplaced a x h n ex eh en t g = rw (← ex, t, ← eh, ← en, g)
 
+pub nowhere : (a : Address) (x h n y : Bool) → x ≡ absent_text a.name → h ≡ absent_country a.country → n ≡ absent_postcode a.postcode → y ≡ absent_text a.municipality
+    → x ≡ false → (h && n) ≡ false → y ≡ true → answer 27 7 ≡ verdict (address_rule a ∷ [])
+nowhere a x h n y ex eh en ey t g u = rw (← ex, t, ← eh, ← en, g, ← ey, u)
+
+pub placed : (a : Address) (x h n y : Bool) → x ≡ absent_text a.name → h ≡ absent_country a.country → n ≡ absent_postcode a.postcode → y ≡ absent_text a.municipality
+    → x ≡ false → (h && n) ≡ false → y ≡ false → accepted ≡ verdict (address_rule a ∷ [])
+placed a x h n y ex eh en ey t g u = rw (← ex, t, ← eh, ← en, g, ← ey, u)
+
 -- ---- weight
 pub weight_none : (w : WeightReading) (s : Bool) (r : Answer) → (w ≡ Absent) ⊎ (w ≡ Malformed) → r ≡ verdict (two_codes 31 34 15 true s) → r ≡ verdict (weight_rules w s)
 weight_none w s r none e = ⊎_elim (λ (is : w ≡ Absent). rw is e) (λ (is : w ≡ Malformed). rw is e) none

@@ -62,12 +62,14 @@ fn texts_fine(rec: &[u8; 399]) -> bool
     }
     names_fine(rec)
         && street_fine(rec)
+        // the widths as constants, which is quicker than to ask for them
         && seldom_fine(layout::field(rec, 20), WIDTHS[20 - 1])
         && seldom_fine(layout::field(rec, 26), WIDTHS[26 - 1])
 }
 
 // ---- the other fields
 
+// A few words for each part of a record, here and below: they are of other fields, and one function of them all would be no plainer.
 fn when_fine(w: When) -> bool
     ensures { result ≡ none_of (when_flags w) }
 {
@@ -209,6 +211,7 @@ fn services_fine(
         && travel_fine(rec, asked, piece)
 }
 
+// The goods are given on, since reading them again costs a good record 7 % of its instructions; `psc` and `fresh` are two words, shorter than a struct of them.
 pub(crate) fn is_fine(rec: &[u8; 399], goods: Goods, psc: &[u32], fresh: bool) -> bool
     requires { goods ≡ goods_of rec.now }
     ensures { result ≡ true → Fine (found psc.now) fresh rec.now }

@@ -34,7 +34,7 @@ pub struct CheckWithAmounts {
     pub price: MoneyReading,
 }
 
-// What is given for a whole record, its identifier and its goods read before; a fresh one is to be posted.
+// What is given for a whole record, its identifier and its goods read before, so that they are read once; a fresh one is to be posted.
 fn whole_answer(
     rec: &[u8; 399],
     identifier: Result<(), Refusal>,

@@ -165,7 +165,7 @@ fn weight_answer(weight: WeightReading, service41: bool) -> Result<(), Refusal>
 
 // ---- 36 to 72: money and services. The fields are named as the rules have them.
 
-// Which services are there; `cash_service` is one of 2, 4, 5 and 41, `several_sizes` two or more of S, M, L and XL.
+// Field by field as specs/Rules has them, here and below. Which services are there; `cash_service` is one of 2, 4, 5 and 41, `several_sizes` two or more of S, M, L and XL.
 #[derive(Clone, Copy)]
 pub struct Asked {
     pub cash_service: bool,
@@ -261,8 +261,7 @@ fn travel_of(rec: &[u8], p: Piece) -> Travel
     }
 }
 
-// Row by row as the rules have them. By `&` and `|`, since there is nothing to spare where fields are read: `&&` gives each row ways of its own, and of
-// so many the proof didn't close.
+// Row by row as the rules have them, by `&` and `|`: these are fields that are read, and no calls that `&&` would spare. Tried with `&&`, the proof did not close: there are too many ways.
 fn service_answer(s: Asked, f: Given, p: Travel) -> Result<(), Refusal>
     ensures { answered result ≡ verdict (service_rules s f p) }
 {

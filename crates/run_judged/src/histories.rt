@@ -107,6 +107,7 @@ impl Batch<'_> {
                 Ok(c)
             },
             Op::SetCount => Ok(set_count(c, item)),
+            // not met here: `serve_call` has the table
             Op::SetTable => Ok(c),
         };
         self.counts = served?;
@@ -117,8 +118,6 @@ impl Batch<'_> {
         let answer = Answer::from(served);
         let c = self.counts;
         let t = c.totals;
-        let cash = t.cash;
-        let price = t.price;
         print_line(
             rt,
             &[
@@ -126,8 +125,8 @@ impl Batch<'_> {
                 u64::from(answer.place),
                 t.live,
                 t.cancelled,
-                cash.0,
-                price.0,
+                t.cash.0,
+                t.price.0,
                 c.held as u64,
                 c.used as u64,
                 adler(self.file),
@@ -177,6 +176,7 @@ fn answer_calls<R: Print, F: Read>(
         journal,
         counts: Counts::default(),
     };
+    // How many calls there are is not said: they end with the item's bytes.
     while 0 < item.left {
         let [op] = item.bytes::<1>()?;
         let size = u32::from_le_bytes(item.bytes()?) as usize;

@@ -77,8 +77,8 @@ impl<F: Read> Item<'_, F> {
 
     // Reads past what is left of it. Each turn goes on by what came, so there is no range to count.
     pub(crate) fn skip(&mut self) -> Result<(), Stop> {
-        let mut space = [0u8; 4096];
         while 0 < self.left {
+            let mut space = [0u8; 4096];
             let n = self.left.min(space.len());
             match streams::read_full(&mut *self.input, &mut space[..n]) {
                 Ok(got) if 0 < got => self.left -= got,

@@ -28,7 +28,7 @@ fn answer_request<R: Print>(rt: &R, item: &[u8]) -> Result<(), Stop> {
 
 // ---- a part read
 
-// A reading of a value that is printed as a number.
+// A reading of a value that is printed as a number. `map` of a reading is for its own crate: a public function asks nothing of what it is given.
 fn numbered<T, N: FnOnce(T) -> u64>(reading: Reading<T>, number: N) -> Reading<u64>
     requires { N.IsAlwaysCallable number }
 {

@@ -25,7 +25,7 @@ pub fn read_full<R: Read>(reader: &mut R, buffer: &mut [u8]) -> io::Result<usize
     Ok(done)
 }
 
-// Likewise of the file of this name; where there is none, nothing comes.
+// Likewise of the file of this name; where there is none, nothing comes. A contract has no word for what a file holds.
 pub fn read_file<R: Files>(rt: &R, path: &str, buffer: &mut [u8]) -> io::Result<usize>
     ensures { ReadsAtMost result buffer.new }
 {

@@ -27,6 +27,14 @@ pub decimal_places_more : (k n : ℕ) → 10 ≤ n → decimal_places_up_to (suc
 unfolding decimal_places_up_to
 decimal_places_more k n h = rw (le-ltb n 10 h)
 
+-- from ten to the p on, and below ten to the p + 1, a number has p + 1
+pub decimal_places_of : (k p n : ℕ) → p ≤ k → ten p ≤ n → n < ten (suc p) → decimal_places_up_to k n ≡ suc p
+decimal_places_of k zero n w l h = decimal_places_one k n (omega arith)
+decimal_places_of zero (suc p) n w l h = absurd (omega arith)
+decimal_places_of (suc k) (suc p) n w l h =
+    let one : 1 ≤ ten p = ten_grows 0 p (omega arith) in
+    decimal_places_more k n (omega arith) ∙ ap suc (decimal_places_of k p (n / 10) (omega arith) (omega arith) (omega arith))
+
 -- ---- a number of w + 1 decimal places is below ten to the w + 1, and not below ten to the w, if it is not 0
 pub record Sized (p n : ℕ) : Type 0 where
   pub last : ℕ

@@ -8,5 +8,4 @@ pub mod Decimals
 pub mod Runs
 pub mod Chains
 pub mod OneOutcome
-pub mod AnswerLaws
 pub mod Refusals

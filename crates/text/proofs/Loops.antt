@@ -1,34 +1,25 @@
 -- Each turn of the loops, and each way out of them, from the facts that are known there.
 -- Assumes nothing.
 use Prim.Native.Nat.{ℕ, zero, suc, ◌+◌, ◌-◌, ◌*◌, ◌/◌, ◌%◌, ◌≤◌, ◌<◌}
-use mathlib.Core.Path.{◌≡◌, refl, sym, ap, ◌∙◌}
-use mathlib.Core.Bool.{Bool, true, false, not, ◌&&◌, and_assoc, and-true, and-false}
+use mathlib.Core.Path.{◌≡◌, sym, ◌∙◌}
+use mathlib.Core.Bool.{Bool, true, false, not, ◌&&◌, and_assoc, and-true}
 use mathlib.Core.List.{List, [], ◌∷◌, ◌++◌, append_assoc, append-nil}
 use native.Mathlib.Numerals.{add-one}
 use native.Mathlib.Omega.{arith}
-use borrow.Author.Tests.{not-true, not-false}
+use borrow.Author.Tests.{not-true}
 use mir.Syntax.{w64}
 use mir.Val.{Fits}
 use lib.ListN.{length, get_or, drop, set, length-set}
-use lib.Dec.{eqb}
 use lib.Seq.{drop-set-lt, get_or-set_same, drop-length}
-use Rattle.text.specs.Bytes.{every, run}
-use Rattle.text.specs.Lists.{same_bytes}
-use Rattle.text.specs.Numbers.{number_after, digits, decimal_places_up_to}
+use Rattle.text.specs.Bytes.{every}
+use Rattle.text.specs.Numbers.{number_after, digits}
 use Rattle.text.proofs.Lists.{step, ended}
 use Rattle.text.proofs.Numbers.{ten, ten_grows}
-use Rattle.text.proofs.Decimals.{decimal_places_one, decimal_places_more}
 
 -- ---- a test at each byte
 module _ (test : ℕ → Bool) (s : List ℕ) (i : ℕ) (r : Bool) (known : every test (drop i s) ≡ r) where
   pub every_fails : (b : Bool) → i < length s → b ≡ test (get_or s i 0) → not b ≡ true → false ≡ r
   every_fails b h e n = rw (step s i h, ← e, not-true b n) at known
-
-  pub every_on : (b : Bool) → i < length s → b ≡ test (get_or s i 0) → not b ≡ false → every test (drop (i + 1) s) ≡ r
-  every_on b h e n = rw (step s i h, ← e, not-false b n) at known
-
-  pub every_ends : length s ≤ i → true ≡ r
-  every_ends h = rw (ended s i h) at known
 
 -- the same with no way out before the end, g saying whether all passed so far
 module _ (test : ℕ → Bool) (s : List ℕ) (i : ℕ) (g r : Bool) (known : (g && every test (drop i s)) ≡ r) where
@@ -72,43 +63,3 @@ digits_on s (suc i) n p h =
 pub digits_done : (s : List ℕ) (i n : ℕ) → i ≤ 0 → digits i n ++ drop i s ≡ s
 unfolding digits
 digits_done s i n h = let z : i ≡ 0 = omega arith in rw z
-
--- ---- how many decimal places a number has
--- c decimal places seen, at most k to come
-module _ (c k n r : ℕ) (known : c + decimal_places_up_to k n ≡ r + 1) where
-  pub decimal_places_stop : n < 10 → c ≡ r
-  decimal_places_stop h = omega (arith, decimal_places_one k n h)
-
-pub decimal_places_on : (c n r : ℕ) → c < 20 → c + decimal_places_up_to (20 - c) n ≡ r + 1 → 10 ≤ n → c + 1 + decimal_places_up_to (20 - (c + 1)) (n / 10) ≡ r + 1
-decimal_places_on c n r l known h =
-    let e : 20 - c ≡ suc (20 - (c + 1)) = omega arith in
-    omega (arith, rw e at known, decimal_places_more (20 - (c + 1)) n h)
-
-pub decimal_places_last : (c n r : ℕ) → c ≡ 20 → c + decimal_places_up_to (20 - c) n ≡ r + 1 → c ≡ r
-unfolding decimal_places_up_to
-decimal_places_last c n r e known = omega (arith, rw e at known)
-
--- ---- same
-pub same_not_long : (a b : List ℕ) → (length a ≡ length b → ⊥) → false ≡ same_bytes a b
-unfolding same_bytes
-same_not_long [] [] n = absurd (n refl)
-same_not_long [] (y ∷ b) n = refl
-same_not_long (x ∷ a) [] n = refl
-same_not_long (x ∷ a) (y ∷ b) n = rw (← same_not_long a b (λ e. n (ap suc e))) (sym (and-false (eqb x y)))
-
--- ---- the bytes at the front that pass a test
-module _ (test : ℕ → Bool) (s : List ℕ) (i r : ℕ) (known : i + run test (drop i s) ≡ r) where
-  pub run_stops : (b : Bool) → i < length s → b ≡ test (get_or s i 0) → not b ≡ true → i ≡ r
-  run_stops b h e n =
-      let here : run test (drop i s) ≡ 0 = rw (step s i h, ← e, not-true b n) in
-      omega arith
-
-  pub run_on : (b : Bool) → i < length s → b ≡ test (get_or s i 0) → not b ≡ false → i + 1 + run test (drop (i + 1) s) ≡ r
-  run_on b h e n =
-      let here : run test (drop i s) ≡ 1 + run test (drop (i + 1) s) = rw (step s i h, ← e, not-false b n) in
-      omega arith
-
-  pub run_ends : length s ≤ i → i ≡ r
-  run_ends h =
-      let here : run test (drop i s) ≡ 0 = rw (ended s i h) in
-      omega arith

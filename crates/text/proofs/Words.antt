@@ -8,7 +8,6 @@ use native.Mathlib.Nat.{zero-add}
 use native.Mathlib.Numerals.{add-one}
 use native.Mathlib.Omega.{arith}
 use borrow.Author.Tests.{not-true, not-false}
-use lib.Dec.{eqb}
 use mir.Syntax.{w8, w64}
 use mir.Val.{Fits}
 use lib.ListN.{length, get_or, take, drop, replicate, length-drop, length-append, length-replicate}
@@ -18,7 +17,6 @@ use Rattle.std.specs.Int.{from_le_bytes}
 use Rattle.std.specs.Simd.{first_chunks}
 use Rattle.std.specs.List.{list_all}
 use Rattle.text.specs.Bytes.{every}
-use Rattle.text.specs.Lists.{same_bytes}
 use Rattle.text.specs.Words.{low_first, word_of, eight_in}
 use Rattle.text.proofs.Booleans.{clash}
 
@@ -41,25 +39,6 @@ module _ (test : ℕ → Bool) (s : List ℕ) (i k : ℕ) (r b : Bool) (known : 
 
   pub chunk_on : not b ≡ false → every test (drop (i + k) s) ≡ r
   chunk_on n = rw (not-false b n) at cut
-
--- ---- two lists compared, k bytes at once
-same_split : (k : ℕ) (a b : List ℕ) → same_bytes a b ≡ (same_bytes (take k a) (take k b) && same_bytes (drop k a) (drop k b))
-unfolding same_bytes
-same_split zero a b = refl
-same_split (suc k) [] [] = refl
-same_split (suc k) [] (y ∷ b) = refl
-same_split (suc k) (x ∷ a) [] = refl
-same_split (suc k) (x ∷ a) (y ∷ b) = rw (same_split k a b) (sym (and_assoc (eqb x y) (same_bytes (take k a) (take k b)) (same_bytes (drop k a) (drop k b))))
-
-module _ (a b : List ℕ) (i k : ℕ) (r t : Bool) (known : same_bytes (drop i a) (drop i b) ≡ r) (et : t ≡ same_bytes (take k (drop i a)) (take k (drop i b))) where
-  same_cut : (t && same_bytes (drop (i + k) a) (drop (i + k) b)) ≡ r
-  same_cut = rw (et, ← drop-drop k i a, ← drop-drop k i b) (sym (same_split k (drop i a) (drop i b)) ∙ known)
-
-  pub same_chunk_fails : not t ≡ true → false ≡ r
-  same_chunk_fails n = rw (not-true t n) at same_cut
-
-  pub same_chunk_on : not t ≡ false → same_bytes (drop (i + k) a) (drop (i + k) b) ≡ r
-  same_chunk_on n = rw (not-false t n) at same_cut
 
 -- a test passed by all passes behind any place
 pub every_behind : (test : ℕ → Bool) (k : ℕ) (s : List ℕ) → every test s ≡ true → every test (drop k s) ≡ true

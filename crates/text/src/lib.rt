@@ -192,10 +192,10 @@ fn short_word(s: &[u8]) -> u64
 pub fn word(s: &[u8]) -> u64
     ensures { GivesWithin (word_of s.now) (λ n. n < 2 ^ 64) result }
 {
-    if s.len() < 8 {
-        return short_word(s);
+    match s.first_chunk::<8>() {
+        Some(eight) => u64::from_le_bytes(*eight),
+        None => short_word(s),
     }
-    u64::from_le_bytes([s[0], s[1], s[2], s[3], s[4], s[5], s[6], s[7]])
 }
 
 // A class of bytes for which eight are tested at once, as one word.
@@ -332,7 +332,7 @@ pub fn number(s: &[u8]) -> u64
     n
 }
 
-// Fills the lent part with the last decimal places of n, as many as it is long.
+// Fills the lent part with the last decimal places of n, as many as it is long. By number of place: behind iter_mut nothing would be known of the bytes.
 pub fn put_digits(part: &mut [u8], n: u64)
     ensures { Gives (digits (length part.old) n) part.new }
 {
@@ -347,12 +347,8 @@ pub fn put_digits(part: &mut [u8], n: u64)
 pub fn decimal_places(n: u64) -> usize
     ensures { GivesWithin (decimal_places n) (λ k. (1 ≤ k) × (k ≤ 20)) result }
 {
-    let mut rest = n;
-    for count in 1..20 {
-        if rest < 10 {
-            return count;
-        }
-        rest /= 10;
+    match n.checked_ilog10() {
+        Some(power) => power as usize + 1,
+        None => 1,
     }
-    20
 }

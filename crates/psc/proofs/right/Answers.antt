@@ -20,8 +20,16 @@ loop-pair-preserved c =
     let known = c.loop-pair.invariant in
     (step.0 ∙ known.0, pair_on _ _ _ _ _ _ known.1 (rw known.0 at step.1.0) (rw known.0 at step.1.1) step.1.2)
 
-pub returns : goal.returns
-returns c =
+pub returns-then-rises : goal.returns-then-rises
+returns-then-rises c =
     let step = c.in-None.ensures.steps in
     let known = c.loop-pair.invariant in
-    pair_ends _ _ _ _ known.1 (rw known.0 at step.1.0)
+    let ends = pair_ends c.loop-pair.rises _ c.args.table.now c.in-Some.highest.now known.1 (rw known.0 at step.1.0) in
+    rw c.if-rises.true at ends
+
+pub returns-else-rises : goal.returns-else-rises
+returns-else-rises c =
+    let step = c.in-None.ensures.steps in
+    let known = c.loop-pair.invariant in
+    let ends = pair_ends c.loop-pair.rises _ c.args.table.now c.in-Some.highest.now known.1 (rw known.0 at step.1.0) in
+    c.if-rises.false ∙ (rw c.if-rises.false at ends)

@@ -1,13 +1,17 @@
 -- `text::decimal_places`.
-use native.Mathlib.Omega.{arith}
-use Rattle.text.proofs.Loops.{decimal_places_stop, decimal_places_on, decimal_places_last}
+use Rattle.std.proofs.Common.{arith, sym, ◌*◌, ◌≤◌, ◌<◌}
+use Rattle.text.proofs.Numbers.{ten, ten_is}
+use Rattle.text.proofs.Decimals.{decimal_places_of, decimal_places_one}
 use Rattle.text.proofs.decimal_places.Goals as goal
 
-pub returns-then-rest-lt10 : goal.returns-then-rest-lt10
-returns-then-rest-lt10 c = (search decimal_places_stop, (omega arith, omega arith))
+pub returns-in-Some : goal.returns-in-Some
+returns-in-Some c =
+    let least : ten c.in-Some.power ≤ c.args.n = rw (ten_is c.in-Some.power) at c.in-Some.ensures.power_le in
+    let most : c.args.n < 10 * ten c.in-Some.power = rw (ten_is c.in-Some.power) at c.in-Some.ensures.next_power_gt in
+    let few = c.in-Some.ensures.bound in
+    (omega (arith, decimal_places_of 19 c.in-Some.power c.args.n (omega arith) least most), (omega arith, omega arith))
 
-pub loop-count-preserved : goal.loop-count-preserved
-loop-count-preserved c = (omega arith, omega arith, search decimal_places_on)
-
-pub returns : goal.returns
-returns c = (omega (arith, decimal_places_last c.loop-count.count c.loop-count.rest _ (omega arith) c.loop-count.invariant.2), (omega arith, omega arith))
+pub returns-in-None : goal.returns-in-None
+returns-in-None c =
+    let zero = c.in-None.ensures.none in
+    (sym (decimal_places_one 19 c.args.n (omega arith)), (omega arith, omega arith))

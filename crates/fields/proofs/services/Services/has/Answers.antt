@@ -1,13 +1,13 @@
 -- `fields::Services/has`.
+use mathlib.Core.Path.{refl}
 use native.Mathlib.Omega.{arith}
-use Rattle.fields.proofs.ServiceWays.{has_low, has_high, has_not}
+use Rattle.fields.proofs.ServiceWays.{has_not}
+use Rattle.fields.specs.Services.{has_code}
 use Rattle.fields.proofs.services.Services.has.Goals as goal
 
-pub returns-then-code-lt64 : goal.returns-then-code-lt64
-returns-then-code-lt64 c = search has_low
-
 pub returns-then-code-lt128 : goal.returns-then-code-lt128
-returns-then-code-lt128 c = search has_high
+unfolding has_code
+returns-then-code-lt128 c = refl
 
-pub returns : goal.returns
-returns c = has_not c.args.self c.args.code (omega arith) c.if-code-lt128.false
+pub returns-else-code-lt128 : goal.returns-else-code-lt128
+returns-else-code-lt128 c = has_not c.args.self c.args.code (omega arith) c.if-code-lt128.false
