@@ -1,6 +1,6 @@
--- The paper's marked examples, in its order: one list, under the one claim `shown`, computed over the definitions.
+-- The paper's marked examples, in its order, and some of its sentences on writing: one list, under the one claim `shown`, computed over the definitions.
 -- Assumes nothing.
-use Rattle.std.specs.Prelude.{ℕ, ◌-◌, ◌≡◌, refl, List, [], ◌∷◌, ◌++◌, Bool, true, false, not, ◌&&◌, eqb, length, replicate, Ok, Err}
+use Rattle.std.specs.Prelude.{ℕ, ◌-◌, ◌≡◌, refl, List, [], ◌∷◌, ◌++◌, Bool, true, false, not, ◌&&◌, ◌||◌, eqb, length, replicate, Ok, Err}
 use Prim.Native.String.{String}
 use Rattle.text.specs.Lists.{same_bytes}
 use Rattle.text.specs.Numbers.{number_after, digits, decimal_places_up_to}
@@ -11,7 +11,8 @@ use Rattle.fields.specs.Readings.{DateReading, WeightReading, MoneyReading, Serv
 use Rattle.fields.specs.declared.services.Services.{Services}
 use Rattle.fields.specs.Frame.{framed}
 use Rattle.fields.specs.Dates.{days_in, read_date, malformed_date}
-use Rattle.fields.specs.Amounts.{is_money, read_weight, malformed_weight, read_money, malformed_money}
+use Rattle.fields.specs.Amounts.{is_money, grams, read_weight, malformed_weight, hellers, read_money, malformed_money}
+use Rattle.fields.specs.Calls.{has_money_text, money_bytes, has_weight_text, weight_bytes}
 use Rattle.fields.specs.Codes.{numbers_from, codes, number_for}
 use Rattle.fields.specs.Services.{words, has_code, no_services, with_code, added, read_by, read_services, malformed_services}
 
@@ -86,6 +87,11 @@ claims =
     ∷ malformed_date (read_date (bytes "20230229"))  -- 13
     ∷ malformed_date (read_date (bytes "19991231"))  -- 13
     ∷ malformed_date (read_date (bytes "21000101"))  -- 13
+    ∷ (has_money_text Absent && same_bytes (money_bytes Absent) (in_field 12 ""))  -- absent is written as blank
+    ∷ (has_weight_text Absent && same_bytes (weight_bytes Absent) (in_field 6 ""))
+    ∷ (has_money_text (hellers 99999999999) && not (has_money_text (hellers 100000000000)))  -- the widest
+    ∷ (has_weight_text (grams 99999) && not (has_weight_text (grams 100000)))
+    ∷ not (has_money_text Malformed || has_weight_text Malformed)
     ∷ []
 
 pub shown : all_hold claims ≡ true

@@ -86,6 +86,3 @@ unfolding low_first filled_with
 text_at_once s long each =
     let whole : take 8 s ≡ s = take_all 8 s (omega arith) in
     ap (λ (t : List ℕ). asks_text (low_first t)) (sym whole) ∙ asks_each 8 s (omega arith) each ∙ ap (λ (t : List ℕ). every is_text t) whole
-
-pub low_bits_small : (w : ℕ) → bit_and w 9187201950435737471 ≤ 9187201950435737471
-low_bits_small w = and_le_r w 9187201950435737471
