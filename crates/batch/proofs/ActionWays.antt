@@ -4,13 +4,14 @@ use Prim.Native.Nat.{ℕ, zero, suc, ◌+◌, ◌-◌, ◌*◌, ◌≤◌, ◌<�
 use mathlib.Core.Path.{◌≡◌, refl, sym, ap, ◌∙◌, subst}
 use mathlib.Core.Bool.{Bool, true, false, cond, not}
 use lib.Dec.{eqb}
-use mathlib.Core.List.{List, [], ◌∷◌, ◌++◌, append_assoc}
+use mathlib.Core.List.{List, [], ◌∷◌, ◌++◌, append_assoc, append-nil}
 use native.Mathlib.Nat.{add-zero, add-sub_cancel_left}
+use native.Mathlib.Numerals.{add-one}
 use native.Mathlib.Omega.{arith}
 use borrow.Author.Tests.{ne_eqb, le-leb, lt-leb}
 use borrow.Rule.Slice.PartMut.{put_mid}
-use lib.ListN.{length, take, drop, set, length-append, drop_of_length-le}
-use lib.Seq.{take_at, take-take, take-add, drop-drop}
+use lib.ListN.{length, get_or, take, drop, set, length-append, length-drop, drop_of_length-le}
+use lib.Seq.{take_at, take-take, take-add, drop-drop, take-suc, take_all, drop-cons, set_at, append_snoc, length-take-le}
 use Rattle.std.proofs.lemmas.List.{drop-take, take-append-drop}
 use Rattle.std.specs.Prelude.{Option, Some, None, is_some, IsSome, Result, Ok, Err, ⊤}
 use Rattle.std.specs.Result.{IsErrAnd}
@@ -152,13 +153,24 @@ pub action_cancel : (known : Known) (file body : List ℕ) (held : ℕ) (seen : 
 unfolding action_answer
 action_cancel known file body held seen kind r k e = rw k e
 
--- ---- line_of
-pub line_written : (rec front end : List ℕ) → length rec ≡ 399 → front ≡ rec → end ≡ 13 ∷ 10 ∷ [] → put_mid 399 2 (front ++ 0 ∷ 0 ∷ []) end ≡ line_of rec
-line_written rec front end long ef ee =
-    let whole = rec ++ 0 ∷ 0 ∷ [] in
-    let all : length whole ≡ 401 = omega (arith, length-append rec (0 ∷ 0 ∷ []), long) in
+-- ---- copy: so many bytes are those that are copied
+pub copied_on : (s t : List ℕ) (i : ℕ) → i < length s → i < length t → set (take i t ++ drop i s) i (get_or t i 0) ≡ take (i + 1) t ++ drop (i + 1) s
+copied_on s t i p q =
+    let long : length (take i t) ≡ i = length-take-le i t (omega arith) in
+    rw (add-one, drop-cons s i 0, take-suc t i 0, set_at (take i t)) (sym (append_snoc (take i t) (get_or t i 0) (drop (suc i) s)))
+
+pub copied_all : (s t u : List ℕ) (i : ℕ) → length s ≡ length t → length t ≤ i → u ≡ take i t ++ drop i s → u ≡ t
+copied_all s t u i l all g = g ∙ rw (take_all i t all, drop_of_length-le s {i = i} (omega (arith, l, all))) (append-nil t)
+
+-- ---- write_line
+pub line_written : (place rec front end : List ℕ) → length place ≡ 401 → length rec ≡ 399 → front ≡ rec → end ≡ 13 ∷ 10 ∷ []
+    → put_mid 399 (length (front ++ drop 399 place) - 399) (front ++ drop 399 place) end ≡ line_of rec
+line_written place rec front end wide long ef ee =
+    let whole = rec ++ drop 399 place in
+    let rest : length (drop 399 place) ≡ 2 = length-drop 399 place ∙ omega (arith, wide) in
+    let all : length whole ≡ 401 = omega (arith, length-append rec (drop 399 place), long, rest) in
     let none : drop 401 whole ≡ [] = drop_of_length-le whole {i = 401} (omega (arith, all)) in
-    rw (ef, ee) (put_is 399 401 whole (13 ∷ 10 ∷ []) (omega arith) (omega (arith, all)) ∙ rw (none, take_at rec (0 ∷ 0 ∷ []) 399 long))
+    rw (ef, ee, all) (put_is 399 401 whole (13 ∷ 10 ∷ []) (omega arith) (omega (arith, all)) ∙ rw (none, take_at rec (drop 399 place) 399 long))
 
 -- ---- what is put into a place: a line, or two bytes
 pub line_put : (file line rec : List ℕ) (k : ℕ) → line ≡ line_of rec → overlay file (k * 401 + 0) line ≡ with_line file k rec

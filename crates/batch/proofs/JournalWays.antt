@@ -21,9 +21,8 @@ use Rattle.record.specs.Consignors.{consignor_of}
 use Rattle.batch.specs.Places.{number_of_place, record_number, present, place_of, is_cancelled_at, id_of, live_answer, add_answer, amend_answer, cancel_answer, with_line, with_cancelled, action_answer, action_file}
 use Rattle.batch.specs.Entries.{body_length, head_stands, kind_at}
 use Rattle.batch.specs.Work.{Acceptable}
-use Rattle.posting.specs.File.{line_of}
 use Rattle.text.specs.Lists.{overlay}
-use Rattle.batch.proofs.ActionWays.{place_found, some_place, line_put, status_put}
+use Rattle.batch.proofs.ActionWays.{place_found, some_place, status_put}
 
 -- ---- where an action is accepted
 pub or_both : (a b : Answer) → (or_else a b).code ≡ 0 → (a.code ≡ 0) × (b.code ≡ 0)
@@ -91,9 +90,9 @@ module _ (file body : List ℕ) (held kind : ℕ) (pre : Acceptable file held ki
         some_place r (rw (en.0, ei) (live_found file body held live))
 
 -- ---- act
-pub acted_add : (file t line body : List ℕ) (held kind : ℕ) → kind ≡ 1 → line ≡ line_of body → t ≡ overlay file (held * 401 + 0) line → t ≡ action_file file held kind body
+pub acted_add : (file t body : List ℕ) (held kind : ℕ) → kind ≡ 1 → t ≡ with_line file held body → t ≡ action_file file held kind body
 unfolding action_file
-acted_add file t line body held kind k el e = rw k (e ∙ line_put file line body held el)
+acted_add file t body held kind k e = rw k e
 
 module _ (file t body id : List ℕ) (held kind : ℕ) (r : Option ℕ) (en : (number_of_place r ≡ record_number file id held) × (number_of_place r ≤ held)) (k : ℕ) (q : r ≡ Some k) where
   pub place_is : place_of file id held ≡ k
@@ -102,9 +101,9 @@ module _ (file t body id : List ℕ) (held kind : ℕ) (r : Option ℕ) (en : (n
   pub place_within : held * 401 ≤ length file → k * 401 + 401 ≤ length file
   place_within fits = omega (arith, fits, (place_found file id held r en k q).1)
 
-  pub acted_amend : (line : List ℕ) → kind ≡ 3 → id ≡ field_of body 1 → line ≡ line_of body → t ≡ overlay file (k * 401 + 0) line → t ≡ action_file file held kind body
+  pub acted_amend : kind ≡ 3 → id ≡ field_of body 1 → t ≡ with_line file k body → t ≡ action_file file held kind body
   unfolding action_file
-  acted_amend line kk ei el e = rw kk (e ∙ line_put file line body k el ∙ ap (λ (x : ℕ). with_line file x body) (sym place_is ∙ ap (λ (x : List ℕ). place_of file x held) ei))
+  acted_amend kk ei e = rw kk (e ∙ ap (λ (x : ℕ). with_line file x body) (sym place_is ∙ ap (λ (x : List ℕ). place_of file x held) ei))
 
   pub acted_cancel : held * 401 ≤ length file → kind ≡ 2 → id ≡ body → t ≡ overlay file (k * 401 + 340) (48 ∷ 32 ∷ []) → t ≡ action_file file held kind body
   unfolding action_file

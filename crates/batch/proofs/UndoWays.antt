@@ -13,7 +13,7 @@ use Rattle.std.specs.Prelude.{Option, Some, IsSome}
 use Rattle.batch.specs.declared.entries.Kind.{Kind}
 use Rattle.text.specs.Lists.{same_bytes, overlay}
 use Rattle.layout.specs.Layout.{field_of}
-use Rattle.posting.specs.File.{line_of, record_at}
+use Rattle.posting.specs.File.{record_at}
 use Rattle.batch.specs.declared.Counts.{Counts}
 use Rattle.batch.specs.Actions.{Action, Addition, Amendment, Cancellation, number_of, sized, all_sized, entry_of, entries_of}
 use Rattle.batch.specs.Records.{id_of, has_id}
@@ -28,7 +28,7 @@ use Rattle.batch.proofs.Made.{entry_long}
 use Rattle.batch.proofs.Reading.{entry_some}
 use Rattle.batch.proofs.StepWays.{kind_read, body_read, kind_told, kind_found}
 use Rattle.batch.proofs.Heads.{kind_some}
-use Rattle.batch.proofs.ActionWays.{line_put, status_put}
+use Rattle.batch.proofs.ActionWays.{status_put}
 use Rattle.batch.proofs.JournalWays.{place_is, place_within}
 
 -- ---- the walk: what the entries that are left carry
@@ -206,13 +206,13 @@ module _ (file id : List ℕ) (c : Counts) (r : Option ℕ) (en : (number_of_pla
       counted = rw (em, ea.0, ea.1, er, place);
     }
 
-    pub amendment_off : (old : List ℕ) → id ≡ field_of old 1 → (back : Amounts) → Read old back → (line : List ℕ) → line ≡ line_of old → (last : ℕ) (m : Counts) (file' : List ℕ)
-        → m ≡ counts_of (amounts_replaced c.totals standing.cash.0 standing.price.0 back.cash.0 back.price.0) c.held c.used → file' ≡ overlay file (k * 401 + 0) line
+    pub amendment_off : (old : List ℕ) → id ≡ field_of old 1 → (back : Amounts) → Read old back → (last : ℕ) (m : Counts) (file' : List ℕ)
+        → m ≡ counts_of (amounts_replaced c.totals standing.cash.0 standing.price.0 back.cash.0 back.price.0) c.held c.used → file' ≡ with_line file k old
         → AmendmentOff file c last old (counts_of m.totals m.held last) file'
-    amendment_off old ei back eb line el last m file' em ef =
+    amendment_off old ei back eb last m file' em ef =
         let at : k ≡ place_of file (id_of old) c.held = place ∙ ap (λ (x : List ℕ). place_of file x c.held) ei in
         record {
-          filed = ef ∙ line_put file line old k el ∙ ap (λ (x : ℕ). with_line file x old) at;
+          filed = ef ∙ ap (λ (x : ℕ). with_line file x old) at;
           counted = rw (em, ea.0, ea.1, eb.0, eb.1, er, at);
         }
 

@@ -72,13 +72,24 @@ pub(crate) fn kind_at(journal: &[u8], end: usize, at: usize) -> Option<Kind>
 
 // ---- writing
 
+// Copies bytes into a part that is as long, one by one: of the library's copy the compiler makes calls of memcpy and memmove, which the archive for C
+// would then need from outside.
+pub(crate) fn copy(part: &mut [u8], bytes: &[u8])
+    requires { length part.old ≡ length bytes.now }
+    ensures { part.new ≡ bytes.now }
+{
+    for i in 0..bytes.len() {
+        part[i] = bytes[i];
+    }
+}
+
 // Writes an entry into a part that is as long.
 fn write_entry(part: &mut [u8], kind: Kind, body: &[u8])
     requires { length part.old ≡ length body.now + 4 }
     ensures { part.new ≡ entry (number_of_kind kind) body.now }
 {
-    part[..4].copy_from_slice(&kind.head());
-    part[4..].copy_from_slice(body);
+    copy(&mut part[..4], &kind.head());
+    copy(&mut part[4..], body);
 }
 
 pub(crate) fn put_entry(journal: &mut [u8], at: usize, kind: Kind, body: &[u8])

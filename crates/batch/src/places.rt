@@ -5,10 +5,10 @@ ghost use Rattle.psc.specs.Search.{found};
 ghost use Rattle.text.specs.Answers.{answered};
 ghost use Rattle.text.specs.Lists.{overlay};
 ghost use Rattle.batch.specs.Entries.{number_of_kind};
-ghost use Rattle.batch.specs.Places.{number_of_place, record_number, live_answer, add_answer, amend_answer, cancel_answer, action_answer, action_file, action_held};
+ghost use Rattle.batch.specs.Places.{number_of_place, record_number, live_answer, add_answer, amend_answer, cancel_answer, with_line, action_answer, action_file, action_held};
 ghost use Rattle.batch.specs.Work.{Acceptable};
 
-use crate::entries::Kind;
+use crate::entries::{Kind, copy};
 use ident::Consignor;
 use posting::Totals;
 use text::Refusal;
@@ -128,23 +128,12 @@ impl<'a> Held<'a> {
 
 // ---- what an action makes of the file
 
-// A record and its line end. The record is a part of a longer slice, as long as it was cut.
-pub(crate) fn line_of(rec: &[u8]) -> [u8; 401]
-    requires { length rec.now ≡ 399 }
-    ensures { result ≡ line_of rec.now }
-{
-    let mut line = [0; 401];
-    line[..399].copy_from_slice(rec);
-    line[399..].copy_from_slice(b"\r\n");
-    line
-}
-
 // Writes bytes into a place that is lent, from its byte `at` on.
 fn write_place(place: &mut [u8], at: usize, bytes: &[u8])
     requires { (length place.old ≡ 401) × (at + length bytes.now ≤ 401) }
     ensures { place.new ≡ overlay place.old at bytes.now }
 {
-    place[at..at + bytes.len()].copy_from_slice(bytes);
+    copy(&mut place[at..at + bytes.len()], bytes);
 }
 
 // Writes bytes into place k, from its byte `at` on: the middle part of the file is lent on, and all other bytes stay.
@@ -156,20 +145,38 @@ pub(crate) fn put(file: &mut [u8], k: usize, at: usize, bytes: &[u8])
     write_place(&mut file[start..start + 401], at, bytes);
 }
 
+// Writes a record and its line end into a place that is lent.
+fn write_line(place: &mut [u8], rec: &[u8])
+    requires { (length place.old ≡ 401) × (length rec.now ≡ 399) }
+    ensures { place.new ≡ line_of rec.now }
+{
+    copy(&mut place[..399], &rec[..399]);
+    copy(&mut place[399..], b"\r\n");
+}
+
+// Puts a record and its line end into place k, and all other bytes stay.
+pub(crate) fn put_line(file: &mut [u8], k: usize, rec: &[u8])
+    requires { (k ≤ 999) × (k * 401 + 401 ≤ length file.old) × (length rec.now ≡ 399) }
+    ensures { file.new ≡ with_line file.old k rec.now }
+{
+    let start = k * 401;
+    write_line(&mut file[start..start + 401], rec);
+}
+
 // An acceptable action, done.
 pub(crate) fn act(file: &mut [u8], held: usize, kind: Kind, body: &[u8])
     requires { Acceptable file.old held (number_of_kind kind) body.now }
     ensures { file.new ≡ action_file file.old held (number_of_kind kind) body.now }
 {
     match kind {
-        Kind::Addition => put(file, held, 0, &line_of(body)),
+        Kind::Addition => put_line(file, held, body),
         Kind::Amendment => {
             let records = Held {
                 file: &*file,
                 count: held,
             };
             let k = records.place_with(layout::field(body, 1)).unwrap();
-            put(file, k, 0, &line_of(body));
+            put_line(file, k, body);
         }
         Kind::Cancellation => {
             let records = Held {

@@ -8,7 +8,7 @@ ghost use Rattle.batch.specs.Undoing.{one_live_less, one_revived, found_at, Entr
 
 use crate::amounts::Amounts;
 use crate::entries::{Kind, kind_at};
-use crate::places::{Held, STATUS, line_of, put};
+use crate::places::{Held, STATUS, put, put_line};
 use crate::{Counts, less};
 use fields::Hellers;
 use posting::Totals;
@@ -126,7 +126,7 @@ fn amendment_off(file: &mut [u8], c: Counts, last: usize, old: &[u8]) -> Counts
     };
     let k = records.place_with(layout::field(old, 1)).unwrap();
     let amended = c.amounts_replaced(Amounts::of(records.at(k)), Amounts::of(old));
-    put(file, k, 0, &line_of(old));
+    put_line(file, k, old);
     Counts {
         used: last,
         ..amended

@@ -16,7 +16,8 @@ use Rattle.fields.specs.Others.{read_status}
 use Rattle.psc.specs.Table.{right_table, holds}
 use Rattle.record.specs.Codes.{lacks}
 use Rattle.record.specs.Outcomes.{any_postcode}
-use Rattle.posting.specs.File.{FileAnswer, record_at, records_in, refused, file_answer, table_refused, file_check}
+use Rattle.posting.specs.declared.FileAnswer.{FileAnswer}
+use Rattle.posting.specs.File.{record_at, records_in, refused, file_answer, table_refused, file_check}
 use Rattle.posting.specs.Sums.{is_live}
 use Rattle.posting.proofs.Codes as Codes
 use Rattle.posting.proofs.Codes.{no_other_file_code}

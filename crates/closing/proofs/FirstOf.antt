@@ -10,7 +10,8 @@ use native.Mathlib.Omega.{arith}
 use borrow.Author.Tests.{eq-eqb, ne_eqb}
 use lib.ListN.{length, get_or}
 use Rattle.text.proofs.Booleans.{clash}
-use Rattle.posting.specs.File.{FileAnswer, record_at, records_in, refused, file_check}
+use Rattle.posting.specs.declared.FileAnswer.{FileAnswer}
+use Rattle.posting.specs.File.{record_at, records_in, refused, file_check}
 use Rattle.posting.proofs.RecordList.{length_up_to, up_to_nth}
 use Rattle.closing.specs.Sets.{main_of, in_set, set_under, offence}
 use Rattle.closing.specs.Closing.{records_of, place_of, offends, one_more, first_that, earliest, closing_of, closing_answer}

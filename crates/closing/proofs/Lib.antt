@@ -8,3 +8,4 @@ pub mod ClosingLaws
 pub mod LinkWays
 pub mod SetWays
 pub mod Ways
+pub mod Former

@@ -1,17 +1,15 @@
 -- Links: what they say of a file's records, and each way out of the functions of `links`.
 -- Assumes nothing.
 use Prim.Native.Nat.{ℕ, zero, suc, ◌+◌, ◌*◌, ◌≤◌, ◌<◌}
-use Rattle.std.specs.Prelude.{Option, None, Some, IfSome, IsSomeAnd}
-use Rattle.std.specs.Option.{MatchOption}
-use mathlib.Core.Path.{◌≡◌, refl, sym, ap, subst, ◌∙◌}
+use Rattle.std.specs.Prelude.{Option, None, Some, IfSome, is_some}
+use mathlib.Core.Path.{◌≡◌, refl, sym, ap, ◌∙◌}
 use mathlib.Core.Bool.{Bool, true, false, cond, ◌&&◌, and-false}
 use mathlib.Core.List.{List}
 use native.Mathlib.Numerals.{add-one}
 use native.Mathlib.Omega.{arith}
 use lib.ListN.{length, get_or, take, drop, set, length-set, length-drop}
 use lib.Seq.{take-add, take-take, drop-drop, drop_at, length-take-le, get_or-set_same, get_or-set_other}
-use mir.Syntax.{w16}
-use mir.Val.{Fits}
+use Rattle.std.proofs.lemmas.List.{get_or_default}
 use Rattle.text.specs.Lists.{same_bytes}
 use Rattle.text.proofs.Lists.{same_exactly, same_refl}
 use Rattle.layout.specs.Layout.{field_of}
@@ -23,7 +21,7 @@ use Rattle.index.proofs.Slots.{seek_small, indexed_more, length_noting}
 use Rattle.posting.specs.File.{record_at, records_in}
 use Rattle.posting.specs.Sums.{is_live}
 use Rattle.posting.proofs.RecordList.{record_wide}
-use Rattle.closing.specs.Links.{live_at, main_at, last_live, live_from, Linked, RoomFor, NowNoted, ToLink}
+use Rattle.closing.specs.Links.{counted, live_at, main_at, last_live, live_from, Linked, RoomFor, NowNoted, ToLink}
 use Rattle.closing.proofs.Below.{below_more}
 
 -- ---- the key that the index goes by is field 22
@@ -35,12 +33,6 @@ main_is file i h =
     let rest : drop 362 (take 399 line) ≡ take 37 (drop 362 line) =
     ap (drop 362) (take-add 362 37 line) ∙ drop_at (take 362 line) (take 37 (drop 362 line)) 362 (length-take-le 362 line (omega arith)) in
     rw (record_wide file i h, rest, take-take 13 37 (drop 362 line) (omega arith), drop-drop)
-
--- ---- a map that leaves the value as it is
-pub mapped_same : {P : ℕ → ℕ → Type 0} (o r : Option ℕ) → MatchOption o (r ≡ None) (λ x. IsSomeAnd r (P x)) → ((x y : ℕ) → P x y → y ≡ x) → r ≡ o
-mapped_same None r h same = h
-mapped_same (Some x) None h same = absurd h
-mapped_same (Some x) (Some y) h same = ap Some (same x y h)
 
 -- ---- the last live record under a main identifier
 -- the places below n, and none
@@ -56,11 +48,6 @@ last_small file main (suc n) = go (live_at file n && same_bytes (main_at file n)
     go true before h = omega arith
     go false None h = tt
     go false (Some i) h = omega arith
-
--- a place counted from 1, with 0 for none, as the index has it
-abbrev pub counted : ℕ → Option ℕ
-counted zero = None
-counted (suc n) = Some n
 
 pub counted_is : (t : ℕ) (at : Option ℕ) → slot_number at ≡ t → at ≡ counted t
 counted_is zero None e = refl
@@ -104,6 +91,15 @@ module _ (file rec : List ℕ) (at : Option ℕ) (i : ℕ) (b : Bool) (ea : at �
   from_link t links known r el =
       let linked = (rw ea at known).1 in
       el ∙ linked.each i (omega arith) ∙ rw ea (sym (from_here file i false (alive_is ∙ t)))
+
+-- a link as it is read
+pub link_read : (links : List (Option ℕ)) (i : ℕ) (link r : Option ℕ) → r ≡ link → link ≡ get_or links i link → i < length links → r ≡ get_or links i None
+link_read links i link r er el h = er ∙ el ∙ get_or_default links i link None h
+
+-- whether there is one
+pub link_some : (file : List ℕ) (links : List (Option ℕ)) (n i : ℕ) (link r : Option ℕ) (b t : Bool) → Linked file n links → i < n → r ≡ link → link ≡ get_or links i link → b ≡ is_some r → b ≡ t
+    → is_some (get_or links i None) ≡ t
+link_some file links n i link r b t linked h er el eb et = ap is_some (sym (link_read links i link r er el (omega (arith, linked.room)))) ∙ sym eb ∙ et
 
 -- a record is linked to one before it
 pub link_small : (file : List ℕ) (links : List (Option ℕ)) (n i : ℕ) → Linked file n links → i < n → Below i (get_or links i None)
@@ -175,7 +171,9 @@ one_linked file n table₀ links₀ table links after r room h known now = recor
     each : (i : ℕ) → i < n + 1 → get_or (set links n r) i None ≡ last_live file (main_at file i) i
     each = rw add-one (below_more (λ i. get_or (set links n r) i None ≡ last_live file (main_at file i) i) n before (get_or-set_same links n r None there ∙ now.link))
 
-pub place_fits : (file main : List ℕ) (n x : ℕ) (r : Option ℕ) → r ≡ last_live file main n → n < records_in file → records_in file ≤ 999 → r ≡ Some x → Fits w16 x
-place_fits file main n x r er h few e =
-    let low : IfSome (Some x) (λ i. i < n) = subst (Below n) e (rw er (last_small file main n)) in
-    record { fits = omega (arith, low) }
+pub place_low : (file main : List ℕ) (n : ℕ) (r : Option ℕ) → r ≡ last_live file main n → n < records_in file → records_in file ≤ 999 → IfSome r (λ i. i < 65535)
+place_low file main n r er h few = go r (rw er (last_small file main n))
+  where
+    go : (r : Option ℕ) → Below n r → IfSome r (λ i. i < 65535)
+    go None low = tt
+    go (Some i) low = omega (arith, low)

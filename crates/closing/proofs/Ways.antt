@@ -19,7 +19,8 @@ use Rattle.index.specs.Index.{seek, slot_number, found}
 use Rattle.index.proofs.Slots.{indexed_none}
 use Rattle.posting.specs.declared.Break.{Break}
 use Rattle.posting.specs.declared.Totals.{Totals}
-use Rattle.posting.specs.File.{FileAnswer, record_at, records_in, refused, passed, file_answered, file_check}
+use Rattle.posting.specs.declared.FileAnswer.{FileAnswer}
+use Rattle.posting.specs.File.{record_at, records_in, refused, passed, file_answered, file_check}
 use Rattle.text.specs.declared.Refusal.TheVariants as Refusal
 use Rattle.text.proofs.Refusals.{refuses}
 use borrow.Author.Tests.{eqb-false}

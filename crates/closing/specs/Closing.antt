@@ -1,7 +1,8 @@
 -- Order 1: the closing check over an accepted file. Records are named from 1 in answers.
 -- Assumes nothing.
 use Rattle.std.specs.Prelude.{ℕ, zero, suc, ◌-◌, Bool, cond, not, List, [], ◌∷◌, eqb, get_or}
-use Rattle.posting.specs.File.{FileAnswer, records, records_in, refused, file_check}
+use Rattle.posting.specs.declared.FileAnswer.{FileAnswer}
+use Rattle.posting.specs.File.{records, records_in, refused, file_check}
 use Rattle.closing.specs.Sets.{main_of, in_set, set_under, offence}
 
 -- the file's list of records

@@ -23,7 +23,8 @@ use Rattle.fields.specs.Examples.{in_field}
 use Rattle.record.specs.Rules.{asked_of, given_of, travel_of, table, record_answer}
 use Rattle.record.specs.Examples.{listed, laid_out, record_of, sent_to, first_piece, second_piece}
 use Rattle.posting.specs.declared.Totals.{Totals}
-use Rattle.posting.specs.File.{FileAnswer, up_to, repeats, line_answer, totals, no_totals, brought, totals_over, break_from, file_answer, file_check}
+use Rattle.posting.specs.declared.FileAnswer.{FileAnswer}
+use Rattle.posting.specs.File.{up_to, repeats, line_answer, totals, no_totals, brought, totals_over, break_from, file_answer, file_check}
 use Rattle.posting.specs.Records.{lines_of}
 use Rattle.posting.specs.Sums.{kept}
 use Rattle.closing.specs.Sets.{in_set, set_under, same_pieces, none_missing, offence}

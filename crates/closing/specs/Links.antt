@@ -1,20 +1,32 @@
 -- How the pieces of a set are found: each record is linked to the live one before it with the same main identifier. Private functions ask for this, and
 -- leave it; no promise of a public call speaks of it.
 -- Assumes nothing.
-use Rattle.std.specs.Prelude.{ℕ, zero, suc, ◌+◌, ◌≤◌, ◌<◌, Bool, false, cond, ◌&&◌, ◌≡◌, List, Option, None, Some, Result, Ok, Err, length, get_or}
+use Rattle.std.specs.Prelude.{ℕ, zero, suc, ◌+◌, ◌≤◌, ◌<◌, Bool, false, cond, ◌&&◌, ◌≡◌, refl, List, Option, None, Some, Result, Ok, Err, length, get_or}
 use Rattle.text.specs.Bytes.{every}
 use Rattle.text.specs.Lists.{same_bytes}
 use Rattle.layout.specs.Layout.{field_of}
 use Rattle.fields.specs.Others.{read_status}
+use Rattle.index.specs.Index.{slot_number}
 use Rattle.index.specs.Laws.{Indexed}
 use Rattle.text.specs.Answers.{answer_of}
 use Rattle.posting.specs.declared.Break.{Break}
-use Rattle.posting.specs.File.{FileAnswer, up_to, record_at, records_in, refused}
+use Rattle.posting.specs.declared.FileAnswer.{FileAnswer}
+use Rattle.posting.specs.File.{up_to, record_at, records_in, refused}
 use Rattle.posting.specs.Sums.{is_live}
 use Rattle.closing.specs.Sets.{main_of, in_set, set_under, said_by, offence}
 use Rattle.closing.specs.Closing.{records_of, place_of, closing_of}
 
 -- ---- links
+-- a place counted from 1, with 0 for none, as a link has it, and the index
+abbrev pub counted : ℕ → Option ℕ
+counted zero = None
+counted (suc n) = Some n
+
+-- the number is had back from the place
+pub counted_back : (n : ℕ) → slot_number (counted n) ≡ n
+counted_back zero = refl
+counted_back (suc n) = refl
+
 abbrev pub live_at : List ℕ → ℕ → Bool
 live_at file i = is_live (read_status (field_of (record_at file i) 19))
 

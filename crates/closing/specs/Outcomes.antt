@@ -1,7 +1,8 @@
 -- What the answer of the closing check means, in the order's words: of one set, and of the whole file.
 -- Assumes nothing.
 use Rattle.std.specs.Prelude.{ℕ, ◌+◌, ◌≤◌, ◌<◌, ◌≡◌, Bool, true, List, [], eqb, length, get_or}
-use Rattle.posting.specs.File.{FileAnswer, record_at, records_in, refused, file_check}
+use Rattle.posting.specs.declared.FileAnswer.{FileAnswer}
+use Rattle.posting.specs.File.{record_at, records_in, refused, file_check}
 use Rattle.posting.specs.Sums.{kept}
 use Rattle.closing.specs.Sets.{main_of, serial_of, pieces_of, in_set, set_under, said_by}
 use Rattle.closing.specs.Closing.{records_of}

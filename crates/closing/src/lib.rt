@@ -13,7 +13,7 @@ mod links; // each record and the live one before it in its set
 mod records; // the records of an accepted file
 mod sets; // the pieces of one set
 
-use links::{by_main, is_live, link_all, live_from};
+use links::{Link, by_main, is_live, link_all, live_from};
 use posting::{Break, Totals};
 use records::Records;
 use sets::{count_in, offence};
@@ -35,11 +35,11 @@ fn any_in_set(records: &Records) -> bool
 }
 
 // Where the set of record i offends. It is looked through for its earliest live record alone: behind a whole one no other record can offend.
-fn place_of(records: &Records, table: &[u16], links: &[Option<u16>], i: usize) -> Option<u32>
+fn place_of(records: &Records, table: &[u16], links: &[Link], i: usize) -> Option<u32>
     requires { AllLinked records.now.file.now table.now links.now × (i < records_in records.now.file.now) × WholeBefore records.now.file.now i }
     ensures { result ≡ some_place (place_of (records_of records.now.file.now) (record_at records.now.file.now i)) }
 {
-    if !in_set(records, i) || links[i].is_some() {
+    if !in_set(records, i) || links[i].place().is_some() {
         return None;
     }
     let rec = records.at(i);
@@ -49,7 +49,7 @@ fn place_of(records: &Records, table: &[u16], links: &[Option<u16>], i: usize) -
 }
 
 // The first record whose set offends, where all are linked.
-fn first_offence(records: &Records, table: &[u16], links: &[Option<u16>]) -> Result<(), Break>
+fn first_offence(records: &Records, table: &[u16], links: &[Link]) -> Result<(), Break>
     requires { AllLinked records.now.file.now table.now links.now }
     ensures { Closed records.now.file.now result }
 {
@@ -70,7 +70,7 @@ fn closed<const LINKS: usize, const SLOTS: usize>(records: &Records) -> Result<(
     ensures { Closed records.now.file.now result }
 {
     let mut table = [0u16; SLOTS];
-    let mut links = [None; LINKS];
+    let mut links = [Link::NONE; LINKS];
     link_all(records, &mut table, &mut links);
     first_offence(records, &table, &links)
 }

@@ -4,6 +4,7 @@ ghost use Rattle.posting.specs.File.{records_in};
 ghost use Rattle.closing.specs.Sets.{count_in};
 ghost use Rattle.closing.specs.Links.{Linked, all_marked, Judged};
 
+use crate::links::Link;
 use crate::records::Records;
 
 // The number in field 23 or 24 of a record; 0 where there is none.
@@ -24,7 +25,7 @@ fn all_marked(seen: &[bool; 100], n: usize) -> bool
 // Where the set offends that has this last live record, and whose first gives so many pieces. Its pieces are walked from the last one on by their links.
 pub(crate) fn offence(
     records: &Records,
-    links: &[Option<u16>],
+    links: &[Link],
     last: Option<usize>,
     pieces: usize,
 ) -> Option<u32>
@@ -42,7 +43,7 @@ pub(crate) fn offence(
         let serial = count_in(rec, 23);
         twice |= seen[serial];
         seen[serial] = true;
-        next = links[i].map(usize::from);
+        next = links[i].place();
     }
     if twice {
         return Some(23);

@@ -8,7 +8,7 @@ use Rattle.text.specs.declared.Answer.{Answer}
 use Rattle.text.specs.Answers.{answer}
 use Rattle.text.proofs.OneOutcome.{gives_once}
 use Rattle.fields.specs.Calls as Fields
-use Rattle.posting.specs.File.{FileAnswer}
+use Rattle.posting.specs.declared.FileAnswer.{FileAnswer}
 use Rattle.batch.specs.Batch.{Batch, Call}
 use Rattle.fuganorezi.specs.declared.TableOutcome.{TableOutcome}
 use Rattle.fuganorezi.specs.declared.BatchOutcome.{BatchOutcome}

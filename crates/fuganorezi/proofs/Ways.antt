@@ -15,7 +15,7 @@ use Rattle.ident.specs.Calls as Ident
 use Rattle.ident.specs.Consignor.{whose, consignor_in}
 use Rattle.ident.proofs.Readings.{read_right, read_refused}
 use Rattle.fields.specs.Calls as Fields
-use Rattle.posting.specs.File.{FileAnswer}
+use Rattle.posting.specs.declared.FileAnswer.{FileAnswer}
 use Rattle.batch.specs.declared.Counts.{Counts}
 use Rattle.batch.specs.Batch.{Batch, Call, batch_of, counts_or, answer_under, Called}
 use Rattle.fuganorezi.specs.declared.BatchOutcome.{BatchOutcome}

@@ -15,7 +15,8 @@ use Rattle.psc.specs.Text.{lines_in, table_in}
 use Rattle.psc.specs.Calls.{read_answer, is_read}
 use Rattle.record.specs.Rules.{check_answer}
 use Rattle.record.specs.Consignors.{consignor_of}
-use Rattle.posting.specs.File.{FileAnswer, totals, file_check}
+use Rattle.posting.specs.declared.FileAnswer.{FileAnswer}
+use Rattle.posting.specs.File.{totals, file_check}
 use Rattle.posting.specs.Report.{numbers_of}
 use Rattle.closing.specs.Closing.{closing_answer}
 use Rattle.batch.specs.declared.Counts.{Counts}

@@ -1,31 +1,49 @@
--- Facts of the ways that words of eight were compared in, digits summed and tens looked up. No proof uses them now; the notes of the orders name them.
+-- Facts of the ways that words of eight were compared in, digits summed and tens looked up. No proof uses them now; notes of the orders, of the port or of a decision name them.
 -- Assumes nothing.
-use Prim.Native.Nat.{ℕ, ◌+◌, ◌-◌, ◌*◌, ◌^◌, ◌≤◌, ◌<◌}
+use Prim.Native.Nat.{ℕ, zero, suc, ◌+◌, ◌-◌, ◌*◌, ◌^◌, ◌≤◌, ◌<◌}
 use mathlib.Core.Path.{◌≡◌, refl, sym, ap, ap₂, ◌∙◌}
-use mathlib.Core.Bool.{Bool, true, false, not}
+use mathlib.Core.Bool.{Bool, true, false, cond, not, ◌&&◌}
 use mathlib.Core.List.{List, [], ◌∷◌, ◌++◌}
 use native.Mathlib.Nat.{mul-le-mul, le-pred_of_lt}
 use native.Mathlib.Omega.{arith}
-use borrow.Author.Tests.{eq-eqb, eqb-true, eqb-false, not-false}
+use borrow.Author.Tests.{eq-eqb, ne_eqb, eqb-true, eqb-false, not-false}
 use mir.Syntax.{w64}
 use mir.Val.{Fits}
 use lib.Dec.{eqb, ltb, eqb→eq, ltb→lt}
 use lib.ListN.{length, get_or, take, drop, length-drop, take-append-drop}
 use lib.Seq.{drop-drop, take_all, drop-length}
 use Rattle.text.specs.Lists.{part, same_bytes}
-use Rattle.text.specs.Numbers.{number_of_first}
-use Rattle.text.specs.Words.{word_of}
+use Rattle.text.specs.Numbers.{number_after, number_of, number_of_first}
+use Rattle.text.specs.Words.{low_first, word_of}
 use Rattle.text.proofs.Lists.{ended, same_exactly}
 use Rattle.text.proofs.Numbers.{few}
 use Rattle.text.proofs.Ranges.{below}
 use Rattle.text.proofs.Words.{AreBytes, bytes_behind}
 use Rattle.ident.specs.declared.Shape.{Shape}
-use Rattle.ident.specs.Identifier.{right_prefix, shape_of, last_of, weights, right_id}
+use Rattle.ident.specs.Identifier.{right_prefix, shape_of, last_of, consignor_digits, posting_digits, digits_before, consignor_of, posting_of, weights, ends_right, right_id}
 use Rattle.ident.specs.Calls.{parts_of}
-use Rattle.ident.proofs.Shapes.{Looked}
+use Rattle.ident.proofs.Shapes.{Looked, none_eight_nine}
 use Rattle.ident.proofs.Comparing.{told, differ}
 
 -- ---- comparing
+-- the first k bytes are the same exactly where their numbers are
+low_byte : (b c x y : ℕ) → b < 256 → c < 256 → eqb (b + 256 * x) (c + 256 * y) ≡ (eqb b c && eqb x y)
+low_byte b c x y h l = go (eqb b c) refl (eqb x y) refl
+  where
+    go : (t : Bool) → eqb b c ≡ t → (u : Bool) → eqb x y ≡ u → eqb (b + 256 * x) (c + 256 * y) ≡ (t && u)
+    go true t true u = eq-eqb (b + 256 * x) (c + 256 * y) (let p = eqb-true b c t in let q = eqb-true x y u in omega arith)
+    go true t false u = ne_eqb (b + 256 * x) (c + 256 * y) (λ e. eqb-false x y u (omega arith))
+    go false t u eu = ne_eqb (b + 256 * x) (c + 256 * y) (λ e. eqb-false b c t (omega arith))
+
+pub same_told : (k : ℕ) (a b : List ℕ) → k ≤ length a → k ≤ length b → AreBytes a → AreBytes b → eqb (low_first (take k a)) (low_first (take k b)) ≡ same_bytes (take k a) (take k b)
+unfolding low_first same_bytes
+same_told zero a b h l each-a each-b = refl
+same_told (suc k) [] b h l each-a each-b = absurd (omega arith)
+same_told (suc k) (x ∷ a) [] h l each-a each-b = absurd (omega arith)
+same_told (suc k) (x ∷ a) (y ∷ b) h l each-a each-b =
+    low_byte x y (low_first (take k a)) (low_first (take k b)) (omega (arith, each-a 0)) (omega (arith, each-b 0))
+    ∙ ap (λ (t : Bool). eqb x y && t) (same_told k a b (omega arith) (omega arith) (λ j. each-a (suc j)) (λ j. each-b (suc j)))
+
 -- what `text::word` gives of all from place j on
 abbrev pub WordAt : List ℕ → ℕ → ℕ → Type 0
 WordAt s j v = v ≡ word_of (take (length s - j) (drop j s))
@@ -106,3 +124,17 @@ unfolding right_id
 not_known s long a ea na h eh n =
     let posting_is : (shape_of (last_of s)).posting ≡ h.posting = ap (λ (x : Shape). x.posting) (sym eh.0) in
     rw (eq-eqb (length s) 13 long, ← ea, not-false a na, posting_is, eq-eqb h.posting 0 n)
+
+-- ---- how an identifier ends: a last byte that is no Z has nine digits before the check digit, or none
+pub ends_numbered : (s : List ℕ) (h : Shape) (a b : Bool) → (get_or s 12 0 ≡ 90 → ⊥) → h ≡ shape_of (last_of s)
+    → a ≡ ltb 0 (number_of (part s 2 (h.consignor + 2))) → b ≡ ltb 0 (number_of (part s (h.consignor + 2) 11)) → (a && b) ≡ ends_right s
+unfolding ends_right number_after
+ends_numbered s h a b n eh ea eb = rw (ea, eb, eh, ne_eqb (get_or s 12 0) 90 n) (go (eqb (posting_digits (last_of s)) 0) refl)
+  where
+    before : (t : Bool) → eqb (posting_digits (last_of s)) 0 ≡ t → digits_before (last_of s) ≡ cond t 0 9
+    before t e = none_eight_nine (last_of s) ∙ rw (e, ne_eqb (get_or s 12 0) 90 n)
+
+    go : (t : Bool) → eqb (posting_digits (last_of s)) 0 ≡ t
+        → (ltb 0 (consignor_of s) && ltb 0 (number_of (part s (consignor_digits (last_of s) + 2) 11))) ≡ (ltb 0 (consignor_of s) && ltb 0 (posting_of s))
+    go true e = let none : consignor_digits (last_of s) ≡ 0 = omega (arith, before true e) in rw none
+    go false e = rw (before false e)

@@ -3,6 +3,7 @@ pub mod Eights
 pub mod Writing
 pub mod Comparing
 pub mod Facts
+pub mod Digits
 pub mod Readings
 pub mod SingleDigits
 pub mod RoundTrip

@@ -3,13 +3,14 @@
 
 mod consignor;
 
-ghost use Rattle.std.specs.Prelude.{◌≡◌, true, false, ◌+◌, ◌%◌, ◌^◌, ◌≤◌, ◌<◌, cond, length, reverse, bytes_eq, MatchOption};
+ghost use Rattle.std.specs.Prelude.{◌≡◌, true, false, ◌+◌, ◌%◌, ◌^◌, ◌≤◌, ◌<◌, cond, length, reverse, ltb, bytes_eq, MatchOption};
 ghost use Rattle.std.specs.List.{list_all, zip};
 ghost use Rattle.ident.specs.Identifier.{Row, last_of, right_prefix, weights_for, weighted, check_digit, passes_at, ends_right, right_id};
 ghost use Rattle.text.specs.Answers.{answered};
 ghost use Rattle.text.specs.Promises.{Gives};
 ghost use Rattle.text.specs.Bytes.{all_digits};
 ghost use Rattle.text.specs.Lists.{part};
+ghost use Rattle.text.specs.Numbers.{number_of};
 ghost use Rattle.ident.specs.Consignor.{whose, consignor_in};
 ghost use Rattle.ident.specs.Calls.{parts_of, can_write, written, Checked, Read, Written, Compared};
 
@@ -138,23 +139,32 @@ fn parts_of(id: &[u8; 13], shape: Shape) -> Parts
     }
 }
 
-// The postfix CZ; or consignor and posting number, which are at least 1.
-#[tactic(auto, unfolding(crate::specs::Identifier::ends_right, crate::specs::Calls::parts_of))]
-fn ends_right(id: &[u8; 13], parts: Parts) -> bool
-    requires { parts ≡ parts_of id.now }
+// Whether a digit above 0 is among these bytes: then they write a number above 0. From the last one on, since numbers begin with zeros.
+fn some_above_0(digits: &[u8]) -> bool
+    ensures { result ≡ ltb 0 (number_of digits.now) }
+{
+    digits.iter().rev().any(|digit| b'0' < *digit)
+}
+
+// The postfix CZ; or consignor and posting number, which are at least 1: their digits tell, so that `check` reads no number.
+#[tactic(auto, unfolding(crate::specs::Identifier::ends_right))]
+fn ends_right(id: &[u8; 13], shape: Shape) -> bool
+    requires { Row (last_of id.now) (Some shape) }
     ensures { result ≡ ends_right id.now }
 {
-    if parts.last == b'Z' {
+    if id[12] == b'Z' {
         id[11] == b'C'
     } else {
-        0 < parts.consignor && 0 < parts.posting
+        let m = shape.consignor + 2;
+        let e = m + shape.posting;
+        some_above_0(&id[2..m]) && some_above_0(&id[m..e])
     }
 }
 
-// The parts of a right identifier.
+// A right identifier, and its shape.
 #[tactic(auto, unfolding(crate::specs::Identifier::right_id))]
-fn right(id: &[u8]) -> Option<Parts>
-    ensures { result ≡ cond (right_id id.now) (Some (parts_of id.now)) None }
+fn right(id: &[u8]) -> Option<(&[u8; 13], Shape)>
+    ensures { MatchOption result (right_id id.now ≡ false) (λ r. (right_id id.now ≡ true) × (r.0.now ≡ id.now) × Row (last_of id.now) (Some r.1)) }
 {
     let id = id.as_array::<13>()?;
     let shape = shape_of(id[12])?;
@@ -162,22 +172,26 @@ fn right(id: &[u8]) -> Option<Parts>
     if !(right_prefix(id[0], id[1]) && digits_at(id, n) && check_digit_fits(id, n)) {
         return None;
     }
-    let parts = parts_of(id, shape);
-    ends_right(id, parts).then_some(parts)
+    ends_right(id, shape).then_some((id, shape))
 }
 
 // Whether an identifier is right; else code 1, place 1.
 pub fn check(id: &[u8]) -> Result<(), Refusal>
     ensures { Checked id.now (answered result) }
 {
-    read(id).map(|_| ())
+    if right(id).is_some() {
+        Ok(())
+    } else {
+        Err(Refusal::WrongIdentifier)
+    }
 }
 
 // The parts of a right identifier, which say whose it is; else code 1, place 1.
 pub fn read(id: &[u8]) -> Result<Parts, Refusal>
     ensures { Read id.now result }
 {
-    right(id).ok_or(Refusal::WrongIdentifier)
+    let (id, shape) = right(id).ok_or(Refusal::WrongIdentifier)?;
+    Ok(parts_of(id, shape))
 }
 
 fn power(k: usize) -> u64

@@ -100,7 +100,8 @@ impl<'a> Keyed<'a> {
             let Some((_, other)) = self.named(table[s]) else {
                 return Some(s);
             };
-            if ident::same(other, key) {
+            let hit = ident::same(other, key);
+            if hit {
                 return Some(s);
             }
             s = next(s, m);

@@ -11,7 +11,8 @@ use lib.Dec.{eqb}
 use lib.ListN.{length}
 use Rattle.psc.specs.Table.{right_table, holds}
 use Rattle.psc.specs.Text.{table_in}
-use Rattle.posting.specs.File.{FileAnswer, refused, file_answer, table_refused, file_check}
+use Rattle.posting.specs.declared.FileAnswer.{FileAnswer}
+use Rattle.posting.specs.File.{refused, file_answer, table_refused, file_check}
 use Rattle.posting.specs.Report.{under_text}
 use Rattle.posting.proofs.Ways.{file_odd, file_long}
 use Rattle.closing.specs.Closing.{closing_answer}

@@ -14,7 +14,8 @@ use Rattle.record.specs.Rules.{in_file, record_answer}
 use Rattle.record.specs.Consignors.{strays}
 use Rattle.record.specs.Outcomes.{any_postcode}
 use Rattle.record.proofs.PostcodeCodes.{others_stay}
-use Rattle.posting.specs.File.{FileAnswer, record_at, records, line_ends, repeats, line_answer, file_answer}
+use Rattle.posting.specs.declared.FileAnswer.{FileAnswer}
+use Rattle.posting.specs.File.{record_at, records, line_ends, repeats, line_answer, file_answer}
 use Rattle.posting.specs.Outcomes.{FileOutcome, no_multiple, too_many, first_break, no_break}
 use Rattle.posting.proofs.FirstBreak.{file_outcome, outcome_exactly}
 

@@ -20,7 +20,8 @@ use Rattle.record.proofs.Order.{no_other_code}
 use Rattle.psc.specs.Table.{right_table, Known, holds}
 use Rattle.psc.specs.Text.{table_in, right_text}
 use Rattle.psc.proofs.TextLaws.{right_text_table}
-use Rattle.posting.specs.File.{FileAnswer, record_at, records, line_answer, refused, file_answer, table_refused, file_check}
+use Rattle.posting.specs.declared.FileAnswer.{FileAnswer}
+use Rattle.posting.specs.File.{record_at, records, line_answer, refused, file_answer, table_refused, file_check}
 use Rattle.posting.specs.Report.{input_answer, under_text}
 use Rattle.posting.specs.Outcomes.{Ended, Repeated, Strayed, LineOutcome, ends_wrong, breaks_table, repeats_earlier, names_another, right, Twice, OtherConsignor, FileOutcome, no_multiple, too_many, first_break, no_break, AllRight}
 use Rattle.posting.proofs.RecordList.{up_to_nth, id_is}

@@ -11,7 +11,8 @@ use borrow.Author.Tests.{eqb-true, eqb-false, leb-true, leb-false}
 use lib.Dec.{eqb, leb}
 use lib.ListN.{length}
 use Rattle.psc.specs.Table.{Known}
-use Rattle.posting.specs.File.{FileAnswer, line_answer, totals_over, refused, passed, break_from, records_in, file_answer}
+use Rattle.posting.specs.declared.FileAnswer.{FileAnswer}
+use Rattle.posting.specs.File.{line_answer, totals_over, refused, passed, break_from, records_in, file_answer}
 use Rattle.posting.specs.Outcomes.{FileOutcome, no_multiple, too_many, first_break, no_break, AllRight}
 use Rattle.posting.proofs.Ways.{Unbroken, unbroken_start, file_odd, file_long, file_breaks, file_on, file_passes}
 use Rattle.posting.proofs.Lines.{line_right_exactly}

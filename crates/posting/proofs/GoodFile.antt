@@ -23,7 +23,8 @@ use Rattle.record.proofs.Order.{accepted_exactly as record-accepted-exactly}
 use Rattle.record.proofs.Status.{none_malformed}
 use Rattle.record.specs.Consignors.{OneConsignor}
 use Rattle.record.proofs.Consignors.{one_by_pairs}
-use Rattle.posting.specs.File.{FileAnswer, up_to, records, line_of, record_at, id_at, line_answer, passed, totals_over, records_in, file_answer}
+use Rattle.posting.specs.declared.FileAnswer.{FileAnswer}
+use Rattle.posting.specs.File.{up_to, records, line_of, record_at, id_at, line_answer, passed, totals_over, records_in, file_answer}
 use Rattle.posting.specs.Outcomes.{RightLine, no_break, AllRight}
 use Rattle.posting.specs.Records.{line_at, lines, lines_of, Readable, GoodFile, GoodRecords, MadeOfGood}
 use Rattle.posting.specs.Sums.{kept, is_live, is_cancelled, live, cancelled, totals_of}

@@ -9,3 +9,4 @@ pub mod Codes
 pub mod GoodFile
 pub mod AnyPostcode
 pub mod PrintedLines
+pub mod Former

@@ -12,7 +12,8 @@ use Rattle.text.proofs.OneOutcome.{gives_once}
 use Rattle.text.proofs.Refusals.{refuses, answer_once}
 use Rattle.posting.specs.declared.Break.{Break}
 use Rattle.posting.specs.declared.Totals.{Totals}
-use Rattle.posting.specs.File.{FileAnswer, file_answered}
+use Rattle.posting.specs.declared.FileAnswer.{FileAnswer}
+use Rattle.posting.specs.File.{file_answered}
 use Rattle.posting.specs.Report.{Report}
 
 -- totals are no break

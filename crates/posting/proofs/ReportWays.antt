@@ -27,7 +27,8 @@ use Rattle.psc.specs.Search.{found}
 use Rattle.psc.specs.Calls.{TableRead}
 use Rattle.psc.proofs.SearchLaws.{found_is_holds}
 use Rattle.psc.proofs.ReadLaws.{read_refused, read_right, read_front}
-use Rattle.posting.specs.File.{FileAnswer, totals_over, break_from, file_answer, refused, table_refused}
+use Rattle.posting.specs.declared.FileAnswer.{FileAnswer}
+use Rattle.posting.specs.File.{totals_over, break_from, file_answer, refused, table_refused}
 use Rattle.posting.specs.Report.{numbers_of, behind, line, report_of, Report, longest_line, WholeLine, input_answer, under_text}
 
 -- ---- one number on

@@ -35,7 +35,8 @@ use Rattle.index.proofs.Keys.{key_of_record}
 use Rattle.index.proofs.Slots.{indexed_more, length_noting}
 use Rattle.posting.specs.Records.{line_at}
 use Rattle.posting.specs.Slots.{RoomFor, NowNoted, Seen, LineAnswered, ToCheck, HasRoom}
-use Rattle.posting.specs.File.{FileAnswer, up_to, record_at, records, id_at, line_ends, repeats, line_answer, no_totals, with_record, totals_over, refused, passed, line_or, break_from, records_in, file_answer, table_refused, file_check}
+use Rattle.posting.specs.declared.FileAnswer.{FileAnswer}
+use Rattle.posting.specs.File.{up_to, record_at, records, id_at, line_ends, repeats, line_answer, no_totals, with_record, totals_over, refused, passed, line_or, break_from, records_in, file_answer, table_refused, file_check}
 
 -- ---- line i of a file: record i is its first 399 bytes, and two bytes are its end
 module _ (file : List ℕ) (i : ℕ) (line : List ℕ) (el : line ≡ line_at file i) where

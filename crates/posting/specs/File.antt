@@ -18,6 +18,7 @@ use Rattle.record.specs.Rules.{in_file, record_answer}
 use Rattle.record.specs.Consignors.{strays}
 use Rattle.posting.specs.declared.Break.{Break}
 use Rattle.posting.specs.declared.Totals.{Totals}
+use Rattle.posting.specs.declared.FileAnswer.{FileAnswer}
 
 -- ---- records of 401 bytes: 399, then 0Dh 0Ah
 abbrev pub record_at : List ℕ → ℕ → List ℕ
@@ -93,13 +94,7 @@ unfoldable pub totals_over : List ℕ → ℕ → Totals
 totals_over file zero = no_totals
 totals_over file (suc n) = with_record (totals_over file n) (record_at file n)
 
--- ---- the answer: code, number of the record and place of the first break, or 0, 0, 0 and the totals
-pub record FileAnswer : Type 0 where
-  pub code : ℕ
-  pub number : ℕ
-  pub place : ℕ
-  pub totals : Totals
-
+-- ---- the answer, `FileAnswer`: code, number of the record and place of the first break, or 0, 0, 0 and the totals
 abbrev pub refused : ℕ → ℕ → ℕ → FileAnswer
 refused c r p = record { code = c; number = r; place = p; totals = no_totals }
 

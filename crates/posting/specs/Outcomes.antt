@@ -7,7 +7,8 @@ use Rattle.psc.specs.Table.{Known}
 use Rattle.ident.specs.Consignor.{Another}
 use Rattle.record.specs.Rules.{in_file, record_answer}
 use Rattle.record.specs.Consignors.{consignor_of}
-use Rattle.posting.specs.File.{FileAnswer, record_at, id_at, line_answer, totals_over, refused, passed, records_in}
+use Rattle.posting.specs.declared.FileAnswer.{FileAnswer}
+use Rattle.posting.specs.File.{record_at, id_at, line_answer, totals_over, refused, passed, records_in}
 
 -- ---- one record of a file, counted from 0
 -- record i is followed by 0Dh 0Ah

@@ -7,7 +7,8 @@ use Rattle.text.specs.Lists.{overlay}
 use Rattle.text.specs.Numbers.{decimal}
 use Rattle.psc.specs.Table.{right_table, holds}
 use Rattle.psc.specs.Text.{table_in, right_text}
-use Rattle.posting.specs.File.{FileAnswer, file_answer, refused, table_refused}
+use Rattle.posting.specs.declared.FileAnswer.{FileAnswer}
+use Rattle.posting.specs.File.{file_answer, refused, table_refused}
 
 -- code, record, place, live, cancelled, cash on delivery in haléře, price specified in haléře
 abbrev pub numbers_of : FileAnswer → List ℕ

@@ -1,13 +1,13 @@
 // A whole K file: the first break of a rule, or the totals; and the line that reports it.
 #![tactic(auto)]
 
-ghost use Rattle.std.specs.Prelude.{◌≡◌, ◌+◌, ◌/◌, ◌≤◌, ◌<◌, ◌∷◌, ◌++◌, [], length, drop};
+ghost use Rattle.std.specs.Prelude.{◌≡◌, ◌+◌, ◌*◌, ◌/◌, ◌≤◌, ◌<◌, ◌∷◌, ◌++◌, [], length, drop};
 ghost use Rattle.psc.specs.Search.{found};
 ghost use Rattle.text.specs.Answers.{answer_of};
 ghost use Rattle.text.specs.Promises.{Gives, GivesWithin};
 ghost use Rattle.text.specs.Lists.{overlay};
 ghost use Rattle.text.specs.Numbers.{decimal_places, decimal};
-ghost use Rattle.posting.specs.File.{line_ends, repeats, amount_of, brought, with_record, refused, file_answered, file_answer, table_refused, file_check};
+ghost use Rattle.posting.specs.File.{record_at, line_ends, repeats, amount_of, brought, with_record, refused, file_answered, file_answer, table_refused, file_check};
 ghost use Rattle.posting.specs.Calls.{sum_of_totals};
 ghost use Rattle.posting.specs.Bounds.{Small};
 ghost use Rattle.posting.specs.Records.{line_at};
@@ -135,6 +135,15 @@ fn with_record(t: Totals, rec: &[u8]) -> Totals
     t.plus(brought(rec)).unwrap_or(t)
 }
 
+// The totals with record i of a file more.
+fn with_record_at(t: Totals, file: &[u8], i: usize) -> Totals
+    requires { Small t × (i * 401 + 401 ≤ length file.now) }
+    ensures { result ≡ with_record t (record_at file.now i) }
+{
+    let start = i * 401;
+    with_record(t, &file[start..start + 399])
+}
+
 // What whole records break, and their totals. The lent table has none of them yet, and more slots than there are records.
 fn checked(
     file: &[u8],
@@ -153,7 +162,7 @@ fn checked(
             refusal,
             number,
         })?;
-        totals = with_record(totals, &line[..399]);
+        totals = with_record_at(totals, file, i);
     }
     Ok(totals)
 }
@@ -220,25 +229,71 @@ pub fn check(file: &[u8], psc: &[u32]) -> Result<Totals, Break>
 // So many bytes serve for every line: seven numbers of 20 digits, each with a byte behind it.
 pub const LONGEST_LINE: usize = 147;
 
-// Code, record, place, live, cancelled, haléře on delivery, haléře specified.
-pub fn numbers_of(given: Result<Totals, Break>) -> [u64; 7]
-    ensures { Gives (numbers_of (file_answered given)) result }
-{
-    match given {
-        Ok(t) => [0, 0, 0, t.live, t.cancelled, t.cash.0, t.price.0],
-        Err(b) => {
-            let Answer { code, place } = Answer::from(b.refusal);
-            [
-                u64::from(code),
-                u64::from(b.number),
-                u64::from(place),
-                0,
-                0,
-                0,
-                0,
-            ]
+// The answer to a file in numbers: code, the record's number and place of the first break; or 0, 0, 0 and the totals. Whoever has such numbers may have their line, too.
+#[derive(Clone, Copy, Debug, PartialEq, Eq)]
+pub struct FileAnswer {
+    pub code: u32,
+    pub number: u32,
+    pub place: u32,
+    pub totals: Totals,
+}
+
+// What says an answer to a file: the numbers themselves, or what a check gives.
+pub trait InNumbers {
+    ghost use Rattle.posting.specs.declared.FileAnswer.{FileAnswer};
+
+    ghost answer: { Self → FileAnswer };
+
+    fn in_numbers(self) -> FileAnswer
+        ensures { result ≡ answer self };
+}
+
+impl InNumbers for FileAnswer {
+    ghost answer = { λ a. a };
+
+    fn in_numbers(self) -> FileAnswer {
+        self
+    }
+}
+
+impl InNumbers for Result<Totals, Break> {
+    ghost answer = { file_answered };
+
+    fn in_numbers(self) -> FileAnswer {
+        match self {
+            Ok(totals) => FileAnswer {
+                code: 0,
+                number: 0,
+                place: 0,
+                totals,
+            },
+            Err(b) => {
+                let Answer { code, place } = Answer::from(b.refusal);
+                FileAnswer {
+                    code,
+                    number: b.number,
+                    place,
+                    totals: Totals::default(),
+                }
+            }
         }
     }
+}
+
+// Code, record, place, live, cancelled, haléře on delivery, haléře specified.
+pub fn numbers_of<A: InNumbers>(given: A) -> [u64; 7]
+    ensures { Gives (numbers_of (A.answer given)) result }
+{
+    let a = given.in_numbers();
+    [
+        u64::from(a.code),
+        u64::from(a.number),
+        u64::from(a.place),
+        a.totals.live,
+        a.totals.cancelled,
+        a.totals.cash.0,
+        a.totals.price.0,
+    ]
 }
 
 // How many bytes the line of these numbers has.
@@ -281,8 +336,8 @@ fn put_line(out: &mut [u8], numbers: &[u64; 7])
 }
 
 // The line for what is given of a file, into a lent buffer; gives its length.
-pub fn put_report(given: Result<Totals, Break>, out: &mut [u8]) -> Result<usize, Refusal>
-    ensures { Report (file_answered given) out.old result out.new }
+pub fn put_report<A: InNumbers>(given: A, out: &mut [u8]) -> Result<usize, Refusal>
+    ensures { Report (A.answer given) out.old result out.new }
 {
     let numbers = numbers_of(given);
     let n = line_length(&numbers);

@@ -5,3 +5,4 @@ pub mod ReadLaws
 pub mod Ways
 pub mod TextWays
 pub mod OneOutcome
+pub mod Former

@@ -9,15 +9,20 @@ use borrow.Author.Tests.{eq-eqb, ne_eqb, not-true, not-false}
 use lib.Dec.{eqb}
 use lib.ListN.{length, get_or, take, drop, length-take, length-drop}
 use lib.Seq.{take-take, take-add, drop-drop, get_or-take, get_or-drop}
+use Rattle.std.specs.Prelude.{Err, None}
 use Rattle.text.specs.declared.Answer.{Answer}
+use Rattle.text.specs.declared.Refusal.TheVariants.{WrongLength}
 use Rattle.text.specs.Answers.{answer, accepted}
 use Rattle.text.specs.Bytes.{every, is_blank}
 use Rattle.text.proofs.Booleans.{both, clash}
 use Rattle.text.proofs.Numbers.{every_append}
 use Rattle.ident.specs.Identifier.{right_id}
+use Rattle.ident.specs.Consignor.{consignor_in}
 use Rattle.layout.specs.Layout.{field_of}
 use Rattle.psc.specs.Table.{Known}
 use Rattle.fields.specs.Readings.{NumberReading}
+use Rattle.fields.specs.declared.reading.Reading.TheVariants as Money
+use Rattle.fields.specs.declared.others.StatusReading.TheVariants as Status
 use Rattle.fields.specs.Frame.{framed}
 use Rattle.fields.specs.Texts.{is_text, read_text, malformed_text, absent_text}
 use Rattle.fields.specs.Numbers.{malformed_number}
@@ -31,7 +36,7 @@ use Rattle.record.specs.declared.readings.Piece.{Piece}
 use Rattle.record.specs.declared.CheckWithAmounts.{CheckWithAmounts}
 use Rattle.record.specs.Table.{Rule, Case, first_case, verdict, places_from, case_whens, whens}
 use Rattle.record.specs.Readings.{when_of, address_of, street_of, contact_of, goods_of, marks_of, piece_of, tail_of}
-use Rattle.record.specs.Rules.{terms, when_flags, address_flags, street_flags, contact_flags, goods_flags, marks_flags, piece_flags, tail_flags, early_flags, late_flags, malformed, asked_in, given_of, travel_of, identifier_rule, unlisted, service_rules, form_rules, content_rules, table}
+use Rattle.record.specs.Rules.{Terms, terms, record_answer, when_flags, address_flags, street_flags, contact_flags, goods_flags, marks_flags, piece_flags, tail_flags, early_flags, late_flags, malformed, asked_in, given_of, travel_of, identifier_rule, unlisted, service_rules, form_rules, content_rules, table}
 use Rattle.record.specs.Consignors.{WithAmounts}
 use Rattle.record.specs.Fine.{none_of, TextWithin, flush, name_breaks, place_breaks, cash_breaks, price_breaks, notice_breaks, travel_breaks, TextsFine, FormFine, ServicesFine, Fine}
 
@@ -235,6 +240,12 @@ pub all_is_fine : (known : Known) (to_be_posted : Bool) (rec : List ℕ) (c : Co
     → ServicesFine c g symbol (travel_of rec p) → Fine known to_be_posted rec
 all_is_fine known to_be_posted rec c g p symbol ec eg ep es texts form right place services =
     all_fine known to_be_posted rec texts (rw (ec, eg, ep) at form) (rw es at right) place (rw (ec, eg, es, ep) at services)
+
+-- where there are not 399 bytes each field is empty: nobody's, and malformed
+pub judged_wide : (t : Terms) (rec : List ℕ) → (length rec ≡ 399 → ⊥)
+    → WithAmounts (record_answer t rec) rec (record { check = record { answer = Err WrongLength; consignor = None }; status = Status.Malformed; cash = Money.Malformed; price = Money.Malformed })
+unfolding record_answer field_of consignor_in right_id framed
+judged_wide t rec n = rw (ne_eqb (length rec) 399 n) ((refl, refl), refl, refl, refl)
 
 -- beside the answer stand fields 19, 16 and 17, each as it is read
 pub amounts_read : (a : Answer) (rec : List ℕ) (r : CheckWithAmounts) → WithAmounts a rec r

@@ -1,7 +1,7 @@
--- Facts of the ways that a record's rules were asked in, group by group. No proof uses them now; the notes of the orders name them.
+-- Facts of the ways that a record's rules were asked in, group by group. No proof uses them now; the notes of the orders and of the port name them.
 -- Assumes nothing.
 use Prim.Native.Nat.{ℕ}
-use mathlib.Core.Path.{◌≡◌, ap, ◌∙◌}
+use mathlib.Core.Path.{◌≡◌, refl, ap, ◌∙◌}
 use mathlib.Core.Bool.{Bool, true, false, ◌&&◌}
 use mathlib.Core.Logic.{◌⊎◌, ⊎_elim}
 use mathlib.Core.List.{List, [], ◌∷◌, ◌++◌}
@@ -13,6 +13,7 @@ use Rattle.layout.specs.Layout.{width_of, field_of}
 use Rattle.psc.specs.Table.{Known}
 use Rattle.fields.specs.declared.amounts.Grams.{Grams}
 use Rattle.fields.specs.declared.services.Services.{Services}
+use Rattle.fields.specs.declared.postcodes.Postcode.TheVariants.{Domestic, Foreign}
 use Rattle.fields.specs.declared.reading.Reading.TheVariants.{Absent, Value, Malformed}
 use Rattle.fields.specs.Readings.{TextReading, PostcodeReading, CountryReading, WeightReading}
 use Rattle.fields.specs.Texts.{read_text, malformed_text, absent_text}
@@ -55,7 +56,23 @@ pub placed : (a : Address) (x h n y : Bool) → x ≡ absent_text a.name → h �
     → x ≡ false → (h && n) ≡ false → y ≡ false → accepted ≡ verdict (address_rule a ∷ [])
 placed a x h n y ex eh en ey t g u = rw (← ex, t, ← eh, ← en, g, ← ey, u)
 
+-- ---- postcode: one that is no domestic one is not looked up
+pub postcode_not_domestic : (known : Known) (w : PostcodeReading) (s : Bool) → ((n : ℕ) → w ≡ Value (Domestic n) → ⊥) → accepted ≡ verdict (postcode_rules known w s)
+postcode_not_domestic known Absent s t = refl
+postcode_not_domestic known (Value (Domestic n)) s t = absurd (t n refl)
+postcode_not_domestic known (Value (Foreign n)) s t = refl
+postcode_not_domestic known Malformed s t = refl
+
+pub postcode_other : (known : Known) (w : PostcodeReading) (s : Bool) → (w ≡ Absent) ⊎ ((n : ℕ) × (w ≡ Value (Foreign n))) ⊎ (w ≡ Malformed) → accepted ≡ verdict (postcode_rules known w s)
+postcode_other known w s other =
+    ⊎_elim (λ (is : w ≡ Absent). rw is refl) (⊎_elim (λ (is : (n : ℕ) × (w ≡ Value (Foreign n))). rw is.1 refl) (λ (is : w ≡ Malformed). rw is refl)) other
+
 -- ---- weight
+pub weight_no_value : (w : WeightReading) (s : Bool) (r : Answer) → ((g : Grams) → w ≡ Value g → ⊥) → r ≡ verdict (two_codes 31 34 15 true s) → r ≡ verdict (weight_rules w s)
+weight_no_value Absent s r t e = e
+weight_no_value (Value g) s r t e = absurd (t g refl)
+weight_no_value Malformed s r t e = e
+
 pub weight_none : (w : WeightReading) (s : Bool) (r : Answer) → (w ≡ Absent) ⊎ (w ≡ Malformed) → r ≡ verdict (two_codes 31 34 15 true s) → r ≡ verdict (weight_rules w s)
 weight_none w s r none e = ⊎_elim (λ (is : w ≡ Absent). rw is e) (λ (is : w ≡ Malformed). rw is e) none
 

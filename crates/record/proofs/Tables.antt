@@ -8,15 +8,15 @@ use native.Mathlib.Omega.{arith}
 use borrow.Author.Tests.{ne_eqb}
 use lib.Dec.{eqb}
 use lib.ListN.{length}
-use Rattle.std.proofs.Common.{Result}
+use Rattle.std.proofs.Common.{Result, Ok, Err}
 use Rattle.std.specs.Bool.{⊤}
-use Rattle.std.specs.Result.{IsErrAnd}
+use Rattle.std.specs.Result.{IsErrAnd, result_and}
 use Rattle.std.proofs.lemmas.Result.{err_from_is_err_and}
 use Rattle.text.specs.declared.Answer.{Answer}
 use Rattle.text.specs.declared.Refusal.{Refusal}
 use Rattle.text.specs.Answers.{answer, accepted, answer_of, answered, or_else}
 use Rattle.text.proofs.Refusals.{refuses}
-use Rattle.record.specs.Table.{Case, Rule, rule, first_case, verdict, places_from}
+use Rattle.record.specs.Table.{Case, Rule, rule, first_case, verdict, places_from, first_broken, cases_then, cases_of, rows_of}
 
 -- ---- one call behind another, by `?`: what the first refuses stands, and behind one that accepts the next is asked
 pub refused : (q : Result ⊤ Refusal) (e : Refusal) (a b : Answer) → IsErrAnd q (λ y. y ≡ e) → answer_of e ≡ a → answered q ≡ or_else a b
@@ -28,6 +28,12 @@ refused q e a b given said =
 pub passed : (r a b : Answer) → accepted ≡ a → r ≡ b → r ≡ or_else a b
 unfolding or_else
 passed r a b said next = rw (← said) next
+
+-- one after the other: the first refusal of the two
+pub joined : (q r : Result ⊤ Refusal) → answered (result_and q r) ≡ or_else (answered q) (answered r)
+unfolding or_else
+joined (Ok u) r = refl
+joined (Err e) r = rw (refuses e) refl
 
 -- ---- one rule behind another
 or_case : (c : ℕ) (ks : List Case) (b : Answer) → (c ≡ 0 → ⊥) → or_else (first_case c ks accepted) b ≡ first_case c ks b
@@ -82,3 +88,24 @@ groups_join p q (x ∷ xs) ys e = go x (groups_join (suc p) q xs ys (omega arith
         → or_else (cond t (answer 210 p) (Malformed (suc p) xs)) (Malformed q ys) ≡ cond t (answer 210 p) (Malformed (suc p) (xs ++ ys))
     go true h = refl
     go false h = h
+
+-- ---- a table as the code has it, row by row, over any rows
+abbrev first_answer : List (Bool × Answer) → Answer
+first_answer [] = accepted
+first_answer (k ∷ ks) = cond k.0 k.1 (first_answer ks)
+
+rows_first : (ts : List (Bool × Refusal)) → first_broken ts ≡ first_answer (rows_of ts)
+rows_first [] = refl
+rows_first (t ∷ ts) = ap (cond t.0 (answer_of t.1)) (rows_first ts)
+
+cases_first : (c : ℕ) (ks : List Case) (rest : List (Bool × Answer)) (b : Answer) → first_answer rest ≡ b → first_answer (cases_then c ks rest) ≡ first_case c ks b
+cases_first c [] rest b e = e
+cases_first c (k ∷ ks) rest b e = ap (cond k.when (answer c k.place)) (cases_first c ks rest b e)
+
+rules_first : (rs : List Rule) → first_answer (cases_of rs) ≡ verdict rs
+rules_first [] = refl
+rules_first (r ∷ rs) = cases_first r.code r.cases (cases_of rs) (verdict rs) (rules_first rs)
+
+-- where row for row stands what case for case does, the first row that is broken tells the verdict
+pub by_rows : (ts : List (Bool × Refusal)) (rs : List Rule) → rows_of ts ≡ cases_of rs → first_broken ts ≡ verdict rs
+by_rows ts rs e = rows_first ts ∙ ap first_answer e ∙ rules_first rs

@@ -1,6 +1,6 @@
 -- A table of rules in order. A rule has a code and cases, each with its place; the first case that holds gives the answer.
 -- Assumes nothing.
-use Rattle.std.specs.Prelude.{ℕ, suc, Bool, false, cond, ◌||◌, List, [], ◌∷◌}
+use Rattle.std.specs.Prelude.{ℕ, suc, Bool, false, cond, ◌||◌, List, [], ◌∷◌, map}
 use Rattle.text.specs.declared.Answer.{Answer}
 use Rattle.text.specs.declared.Refusal.{Refusal}
 use Rattle.text.specs.Answers.{answer, accepted, answer_of}
@@ -58,6 +58,19 @@ whens (r ∷ rs) = case_whens r.cases (whens rs)
 abbrev pub first_broken : List (Bool × Refusal) → Answer
 first_broken [] = accepted
 first_broken (k ∷ ks) = cond k.0 (answer_of k.1) (first_broken ks)
+
+-- the cases of all rules, in their order: the condition of each, and the answer where it holds
+abbrev pub cases_then : ℕ → List Case → List (Bool × Answer) → List (Bool × Answer)
+cases_then c [] rest = rest
+cases_then c (k ∷ ks) rest = (k.when, answer c k.place) ∷ cases_then c ks rest
+
+abbrev pub cases_of : List Rule → List (Bool × Answer)
+cases_of [] = []
+cases_of (r ∷ rs) = cases_then r.code r.cases (cases_of rs)
+
+-- its rows: the condition of each, and the answer of what it refuses by
+abbrev pub rows_of : List (Bool × Refusal) → List (Bool × Answer)
+rows_of ts = map (λ t. (t.0, answer_of t.1)) ts
 
 abbrev pub code_of : Rule → ℕ
 code_of r = r.code

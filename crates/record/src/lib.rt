@@ -55,19 +55,27 @@ fn whole_answer(
 }
 
 // For callers that have tested the table, once for many records: the answer by what a look finds in it. In a right one that is what it holds.
-#[tactic(auto, unfolding(crate::specs::Rules::record_answer))]
+#[tactic(auto, using(crate::proofs::FineLaws::judged_wide), unfolding(crate::specs::Rules::record_answer))]
 pub fn judge(rec: &[u8], psc: &[u32], fresh: bool) -> CheckWithAmounts
     ensures { WithAmounts (record_answer (terms fresh (found psc.now)) rec.now) rec.now result }
 {
+    let Some(whole) = rec.as_array::<399>() else {
+        return CheckWithAmounts {
+            check: RecordCheck {
+                answer: Err(Refusal::WrongLength),
+                consignor: None,
+            },
+            status: StatusReading::Malformed,
+            cash: MoneyReading::Malformed,
+            price: MoneyReading::Malformed,
+        };
+    };
     let RecordCheck {
         answer: identifier,
         consignor,
-    } = rules::identifier_check(rec);
-    let goods = read_goods(rec);
-    let answer = match <&[u8; 399]>::try_from(rec) {
-        Ok(whole) => whole_answer(whole, identifier, goods, psc, fresh),
-        Err(_) => Err(Refusal::WrongLength),
-    };
+    } = rules::identifier_check(whole);
+    let goods = read_goods(whole);
+    let answer = whole_answer(whole, identifier, goods, psc, fresh);
     CheckWithAmounts {
         check: RecordCheck { answer, consignor },
         status: goods.status,

@@ -1,8 +1,8 @@
 // The rules, in the paper's order: those on the form of the fields, then those on what the fields say.
-ghost use Rattle.std.specs.Prelude.{◌≡◌, true, [], ◌∷◌, cond, get_or};
+ghost use Rattle.std.specs.Prelude.{◌≡◌, true, List, [], ◌∷◌, cond, get_or};
 ghost use Rattle.text.specs.Answers.{answered};
 ghost use Rattle.psc.specs.Search.{found};
-ghost use Rattle.record.specs.Table.{first_broken, rule, places_from, verdict};
+ghost use Rattle.record.specs.Table.{Rule, first_broken, rule, places_from, verdict, rows_of, cases_of};
 ghost use Rattle.record.specs.Readings.{malformed_status};
 ghost use Rattle.record.specs.Consignors.{WithConsignor};
 ghost use Rattle.record.specs.Rules.{early_flags, late_flags, malformed, malformed_rule, asked_of, given_of, is_set_prefix, travel_of, identifier_rule, content_of, address_rule, postcode_rules, weight_rules, service_rules};
@@ -12,9 +12,10 @@ use crate::readings::{Address, Piece, Readings};
 use fields::{Postcode, PostcodeReading, Reading, Services, StatusReading, WeightReading};
 use text::Refusal;
 
-// The refusal of the first condition that holds.
+// The refusal of the first condition that holds: so the verdict of any rules that say the same, row for row.
 fn first_broken(table: &[(bool, Refusal)]) -> Result<(), Refusal>
-    ensures { answered result ≡ first_broken table.now }
+    ensures first { answered result ≡ first_broken table.now }
+    ensures by_rows { (rs : List Rule) → rows_of table.now ≡ cases_of rs → answered result ≡ verdict rs }
 {
     for &(broken, refusal) in table {
         if broken {
@@ -313,6 +314,7 @@ pub(crate) fn content_answer(rec: &[u8], read: Readings, psc: &[u32]) -> Result<
     let asked = asked_of(read.goods.services.services());
     address_answer(read.address)?;
     postcode_answer(read.address.postcode, psc, asked.service41)?;
-    weight_answer(read.goods.weight, asked.service41)?;
-    service_answer(asked, given_of(read), travel_of(rec, read.piece))
+    let weight = weight_answer(read.goods.weight, asked.service41);
+    let services = service_answer(asked, given_of(read), travel_of(rec, read.piece));
+    weight.and(services)
 }

@@ -18,6 +18,10 @@ pub(crate) fn read<'a, F: Read>(
     if table.len() < n {
         return Err(Stop::TooLong);
     }
+    // Where not all are there none is read: whoever writes into a pipe is refused at once.
+    if item.left / 4 < n {
+        return Err(Stop::CutShort);
+    }
     let entries = &mut table[..n];
     for entry in entries.iter_mut() {
         *entry = u32::from_le_bytes(item.bytes()?);

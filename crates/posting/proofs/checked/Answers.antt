@@ -1,9 +1,8 @@
 -- `posting::checked`.
-use Rattle.std.proofs.Common.{rules, Ok, Err, ◌≡◌, ◌∙◌, ap}
-use Rattle.posting.specs.File.{with_record}
+use Rattle.std.proofs.Common.{rules, Ok, Err, ◌≡◌}
 use native.Mathlib.Omega.{arith}
 use Rattle.posting.proofs.Amounts.{no_totals_is, totals_small}
-use Rattle.posting.proofs.Ways.{so_far_none, so_far_on, line_here, room_here, first_breaks, file_passes, totals_start, totals_on, record_in}
+use Rattle.posting.proofs.Ways.{so_far_none, so_far_on, line_here, room_here, first_breaks, file_passes, totals_start, totals_on}
 use Rattle.posting.proofs.checked.Goals as goal
 
 pub loop-i-init : goal.loop-i-init
@@ -25,14 +24,14 @@ returns-in_err-seen c =
     let broken : c.line_answer.result ≡ Err c.in_err-seen.field-0.0.refusal = search rules in
     search (rules, first_breaks _ _ _ _ _ _ _ c.loop-i.invariant.1 _ c.line_answer.ensures (omega (arith, c.requires.0.many)) c.requires.0.whole c.requires.0.few _ broken)
 
-pub with_record-totals-requires : goal.with_record-totals-requires
-with_record-totals-requires c = totals_small _ _ _ (omega (arith, c.requires.0.few, c.requires.0.many)) c.loop-i.invariant.0
+pub with_record_at-totals-requires : goal.with_record_at-totals-requires
+with_record_at-totals-requires c =
+    (totals_small _ _ _ (omega (arith, c.requires.0.few, c.requires.0.many)) c.loop-i.invariant.0, omega (arith, c.requires.0.whole, c.requires.0.many, c.loop-i-test.true))
 
 pub loop-i-preserved : goal.loop-i-preserved
 loop-i-preserved c =
-    let taken : c.line_answer.result ≡ Ok c.in_ok-seen.seen = search rules in
-    let here = record_in c.args.file.now c.loop-i.i _ (line_here _ _ _ c.requires.0 c.loop-i-test.true) in (
-      totals_on _ _ _ _ c.loop-i.invariant.0 (c.with_record-totals.ensures ∙ ap (with_record c.loop-i.totals) here),
+    let taken : c.line_answer.result ≡ Ok c.in_ok-seen.seen = search rules in (
+      totals_on _ _ _ _ c.loop-i.invariant.0 c.with_record_at-totals.ensures,
       so_far_on _ _ _ _ _ _ _ c.loop-i.invariant.1 _ c.line_answer.ensures (omega (arith, c.requires.0.many)) _ taken,
     )
 

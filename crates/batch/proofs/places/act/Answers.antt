@@ -1,15 +1,11 @@
 -- `batch::places::act`.
 use mathlib.Core.Path.{refl, ap}
-use native.Mathlib.Omega.{arith}
 use Rattle.batch.specs.Entries.{number_of_kind}
 use Rattle.batch.proofs.JournalWays.{adds_within, amends_some, cancels_some, acted_add, acted_amend, acted_cancel}
 use Rattle.batch.proofs.places.act.Goals as goal
 
-pub line_of-requires : goal.line_of-requires
-line_of-requires c = (adds_within _ _ _ _ c.requires (ap number_of_kind c.in-Addition.is)).2
-
-pub put-requires : goal.put-requires
-put-requires c = let within = adds_within _ _ _ _ c.requires (ap number_of_kind c.in-Addition.is) in (within.0, within.1, omega arith)
+pub put_line-requires : goal.put_line-requires
+put_line-requires c = adds_within _ _ _ _ c.requires (ap number_of_kind c.in-Addition.is)
 
 pub unwrap-k-requires : goal.unwrap-k-requires
 unwrap-k-requires c = amends_some _ _ _ _ c.requires _ _ c.place_with.ensures (ap number_of_kind c.in-Amendment.is) c.field.ensures
@@ -18,10 +14,10 @@ pub unwrap-k-requires-in-Cancellation : goal.unwrap-k-requires-in-Cancellation
 unwrap-k-requires-in-Cancellation c = cancels_some _ _ _ _ c.requires _ _ c.place_with-in-Cancellation.ensures (ap number_of_kind c.in-Cancellation.is) refl
 
 pub returns-in-Addition : goal.returns-in-Addition
-returns-in-Addition c = acted_add _ _ _ _ _ _ (ap number_of_kind c.in-Addition.is) c.line_of.ensures c.put.ensures
+returns-in-Addition c = acted_add _ _ _ _ _ (ap number_of_kind c.in-Addition.is) c.put_line.ensures
 
 pub returns-in-Amendment : goal.returns-in-Amendment
-returns-in-Amendment c = acted_amend _ _ _ _ _ _ _ c.place_with.ensures _ c.unwrap-k.ensures _ (ap number_of_kind c.in-Amendment.is) c.field.ensures c.line_of-in-Amendment.ensures c.put-in-Amendment.ensures
+returns-in-Amendment c = acted_amend _ _ _ _ _ _ _ c.place_with.ensures _ c.unwrap-k.ensures (ap number_of_kind c.in-Amendment.is) c.field.ensures c.put_line-in-Amendment.ensures
 
 pub returns-in-Cancellation : goal.returns-in-Cancellation
-returns-in-Cancellation c = acted_cancel _ _ _ _ _ _ _ c.place_with-in-Cancellation.ensures _ c.unwrap-k-in-Cancellation.ensures c.requires.fits (ap number_of_kind c.in-Cancellation.is) refl c.put-in-Cancellation.ensures
+returns-in-Cancellation c = acted_cancel _ _ _ _ _ _ _ c.place_with-in-Cancellation.ensures _ c.unwrap-k-in-Cancellation.ensures c.requires.fits (ap number_of_kind c.in-Cancellation.is) refl c.put.ensures

@@ -3,7 +3,7 @@ use mathlib.Core.Path.{◌≡◌}
 use lib.ListN.{get_or}
 use Rattle.std.proofs.Common.{rules}
 use Rattle.std.specs.Prelude.{None}
-use Rattle.closing.proofs.LinkWays.{mapped_same}
+use Rattle.closing.proofs.LinkWays.{link_read}
 use Rattle.closing.proofs.SetWays.{look_start, here_inside, look_on, next_inside, next_less, out_unequal, out_repeated, out_missing, out_whole}
 use Rattle.closing.proofs.sets.offence.Goals as goal
 
@@ -16,12 +16,12 @@ returns-then-count_in-pieces c =
 
 pub loop-next-smaller : goal.loop-next-smaller
 loop-next-smaller c =
-    let next : c.map-next.result ≡ get_or c.args.links.now c.in-Some.i None = mapped_same _ _ c.map-next.ensures.cases (λ x y h. search rules) in
+    let next : c.place-next.result ≡ get_or c.args.links.now c.in-Some.i None = link_read c.args.links.now c.in-Some.i _ _ c.place-next.ensures c.index-links-i.is (search rules) in
     rw (next, c.in-Some.is) (next_less _ _ _ c.requires.0 (here_inside _ _ _ c.loop-next.invariant.0 c.in-Some.is))
 
 pub loop-next-preserved : goal.loop-next-preserved
 loop-next-preserved c =
-    let next : c.map-next.result ≡ get_or c.args.links.now c.in-Some.i None = mapped_same _ _ c.map-next.ensures.cases (λ x y h. search rules) in
+    let next : c.place-next.result ≡ get_or c.args.links.now c.in-Some.i None = link_read c.args.links.now c.in-Some.i _ _ c.place-next.ensures c.index-links-i.is (search rules) in
     rw next (
       next_inside _ _ _ c.requires.0 (here_inside _ _ _ c.loop-next.invariant.0 c.in-Some.is),
       look_on _ _ _ _ _ _ c.loop-next.invariant.1 c.in-Some.i c.in-Some.is _ c.at-rec.ensures _ c.count_in.ensures c.if-count_in-pieces.false _ c.count_in-serial.ensures _ c.requires.0,

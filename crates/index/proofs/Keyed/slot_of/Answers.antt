@@ -12,12 +12,12 @@ loop-turn-init c = (search rules, search walk_start)
 pub returns-in_default : goal.returns-in_default
 returns-in_default c = (walk_free _ _ _ _ _ _ _ _ c.loop-turn.invariant.1 c.loop-turn-test.true c.in_default.ensures, omega arith)
 
-pub returns-then-same : goal.returns-then-same
-returns-then-same c = (walk_found _ _ _ _ _ _ _ _ c.loop-turn.invariant.1 c.loop-turn-test.true _ _ c.in-Some.ensures _ c.same.ensures c.if-same.true, omega arith)
+pub returns-then-hit : goal.returns-then-hit
+returns-then-hit c = (walk_found _ _ _ _ _ _ _ _ c.loop-turn.invariant.1 c.loop-turn-test.true _ _ c.in-Some.ensures _ c.same-hit.ensures c.if-hit.true, omega arith)
 
 pub loop-turn-preserved : goal.loop-turn-preserved
 loop-turn-preserved c =
-    (omega arith, walk_on _ _ _ _ _ _ _ _ c.loop-turn.invariant.1 c.loop-turn-test.true _ _ c.in-Some.ensures _ c.same.ensures _ c.next-s.ensures c.if-same.false)
+    (omega arith, walk_on _ _ _ _ _ _ _ _ c.loop-turn.invariant.1 c.loop-turn-test.true _ _ c.in-Some.ensures _ c.same-hit.ensures _ c.next-s.ensures c.if-hit.false)
 
 pub returns : goal.returns
 returns c = search walk_out

@@ -1,0 +1,8 @@
+-- `batch::entries::copy`: so many bytes are those that are copied.
+use mathlib.Core.Path.{◌≡◌}
+use mathlib.Core.List.{◌++◌}
+use lib.ListN.{take, drop}
+use Rattle.batch.proofs.entries.copy.Given as goal
+
+abbrev pub invariant-loop-i : goal.invariant-loop-i
+invariant-loop-i l = l.part ≡ take l.i l.bytes ++ drop l.i l.initial.part
